@@ -1,0 +1,278 @@
+-- The demands that follow from the run's laws.
+use mathlib.Core.Path.{_≡_, refl, sym, _∙_, ap, ap₂, subst}
+use mathlib.Core.Logic.{_↔_, _≢_, _⊎_, inl, inr}
+use mathlib.Core.Bool.{Bool, true, false, cond, false≢true}
+use mathlib.Core.List.{List, [], _∷_, _++_, map, append-assoc, append-nil}
+use Prim.Native.Nat.{ℕ, zero, suc, _+_, _-_, _*_, _<_, _≤_, zero-le}
+use native.Mathlib.Omega.{arith}
+use native.Mathlib.Nat.{le-of-eq, suc-mul, zero-mul}
+use lib.ListN.{length, length-append, take, drop, length-drop}
+use lib.Seq.{take-at, drop-at, take-append-le, drop-append-le}
+use lib.Dec.{leb}
+use borrow.Author.Tests.{leb-true, leb-false, le-leb, lt-leb, eq-eqb, eqb-true}
+use Rattle.calculus.specs.Lists.{Each, Some, here, there, gather, first}
+use Rattle.calculus.specs.Relations.{applies}
+use mathlib.Core.Option.{Option, none, some}
+use Rattle.calculus.specs.Meaning.{Constraint}
+use Rattle.calculus.specs.Branch.{Branch, start, known}
+use Rattle.calculus.specs.Search as Ru
+use Rattle.calculus.specs.Search.{Candidate, Next, solved, step, children, next, places}
+use Rattle.calculus.specs.Log.{Event, formed, stepped, log}
+use Rattle.calculus.specs.Problem.{Problem, termCount, Assignment, Satisfies, Accepted}
+use Rattle.calculus.specs.Run.{recordOf, Tally, stop, listForm, takeStep, tally, run, listedForms, SatisfiesForm}
+use Rattle.calculus.specs.Run as R
+use Rattle.calculus.specs.Reading.{Parsed, parsed, refused, _>>=_, ask, read}
+use Rattle.calculus.specs.Calls.{Verdict, FORMS, FALSE, SPENT, NOROOM, Answer, refusal, ended, Outcome, verdictOf, over, asked, left, answered, call}
+use Rattle.calculus.specs.Words.{nextOf, Path, Progress, Works}
+use Rattle.calculus.specs.Demands.{Follows, SameSolutions, Stops, Asks, Kept}
+use Rattle.calculus.proofs.Bools.{Each-imp, Each-app}
+use Rattle.calculus.proofs.Records.{record-length, run-solutions}
+use Rattle.calculus.proofs.ReadingLaws.{read-accepted}
+use Rattle.calculus.proofs.WorkOrder.{run-goes}
+
+-- ---- lengths
+
+module _ (n : ℕ) where
+  pub records-long : (es : List Event) (l q : ℕ) → length (tally n l q es .records) ≡ tally n l q es .forms * (3 * n)
+  records-long [] l q = sym (zero-mul (3 * n))
+  records-long (formed b ∷ es) l q = go (leb (length (recordOf n b)) q) refl (records-long es l (q - length (recordOf n b)))
+    where
+      go : (t : Bool) → leb (length (recordOf n b)) q ≡ t → length (tally n l (q - length (recordOf n b)) es .records) ≡ tally n l (q - length (recordOf n b)) es .forms * (3 * n)
+          → length (tally n l q (formed b ∷ es) .records) ≡ tally n l q (formed b ∷ es) .forms * (3 * n)
+      go true t ih = rw (t, tally) (omega (arith, length-append (recordOf n b) (tally n l (q - length (recordOf n b)) es .records), record-length b n 0, ih, suc-mul (tally n l (q - length (recordOf n b)) es .forms) (3 * n)))
+      go false t ih = rw (t, tally) (sym (zero-mul (3 * n)))
+  records-long (stepped r ∷ es) zero q = sym (zero-mul (3 * n))
+  records-long (stepped r ∷ es) (suc l) q = records-long es l q
+
+  pub records-fit : (es : List Event) (l q : ℕ) → length (tally n l q es .records) ≤ q
+  records-fit [] l q = zero-le
+  records-fit (formed b ∷ es) l q = go (leb (length (recordOf n b)) q) refl (records-fit es l (q - length (recordOf n b)))
+    where
+      go : (t : Bool) → leb (length (recordOf n b)) q ≡ t → length (tally n l (q - length (recordOf n b)) es .records) ≤ q - length (recordOf n b) → length (tally n l q (formed b ∷ es) .records) ≤ q
+      go true t ih = rw (t, tally) (omega (arith, length-append (recordOf n b) (tally n l (q - length (recordOf n b)) es .records), ih, leb-true (length (recordOf n b)) q t))
+      go false t ih = rw (t, tally) zero-le
+  records-fit (stepped r ∷ es) zero q = zero-le
+  records-fit (stepped r ∷ es) (suc l) q = records-fit es l q
+
+  pub steps-fit : (es : List Event) (l q : ℕ) → tally n l q es .steps ≤ l
+  steps-fit [] l q = zero-le
+  steps-fit (formed b ∷ es) l q = go (leb (length (recordOf n b)) q) refl (steps-fit es l (q - length (recordOf n b)))
+    where
+      go : (t : Bool) → leb (length (recordOf n b)) q ≡ t → tally n l (q - length (recordOf n b)) es .steps ≤ l → tally n l q (formed b ∷ es) .steps ≤ l
+      go true t ih = rw (t, tally) ih
+      go false t ih = rw (t, tally) zero-le
+  steps-fit (stepped r ∷ es) zero q = zero-le
+  steps-fit (stepped r ∷ es) (suc l) q = omega (arith, steps-fit es l q)
+
+  -- SPENT, NO ROOM
+  pub spent-all : (es : List Event) (l q : ℕ) → tally n l q es .end ≡ R.SPENT → tally n l q es .steps ≡ l
+  spent-all [] l q e = let w : false ≡ true = cc in absurd (false≢true w)
+  spent-all (formed b ∷ es) l q e = go (leb (length (recordOf n b)) q) refl (spent-all es l (q - length (recordOf n b)))
+    where
+      go : (t : Bool) → leb (length (recordOf n b)) q ≡ t → (tally n l (q - length (recordOf n b)) es .end ≡ R.SPENT → tally n l (q - length (recordOf n b)) es .steps ≡ l) → tally n l q (formed b ∷ es) .steps ≡ l
+      go true t ih = rw (t, tally) (ih (rw (t, tally) at e))
+      go false t ih = let z : R.NOROOM ≡ R.SPENT = rw (t, tally) at e in let w : false ≡ true = cc in absurd (false≢true w)
+  spent-all (stepped r ∷ es) zero q e = refl
+  spent-all (stepped r ∷ es) (suc l) q e = ap suc (spent-all es l q e)
+
+  pub room-full : (es : List Event) (l q : ℕ) → tally n l q es .end ≡ R.NOROOM → q < suc (tally n l q es .forms) * (3 * n)
+  room-full [] l q e = let w : false ≡ true = cc in absurd (false≢true w)
+  room-full (formed b ∷ es) l q e = go (leb (length (recordOf n b)) q) refl (room-full es l (q - length (recordOf n b)))
+    where
+      go : (t : Bool) → leb (length (recordOf n b)) q ≡ t → (tally n l (q - length (recordOf n b)) es .end ≡ R.NOROOM → q - length (recordOf n b) < suc (tally n l (q - length (recordOf n b)) es .forms) * (3 * n)) → q < suc (tally n l q (formed b ∷ es) .forms) * (3 * n)
+      go true t ih = rw (t, tally) (omega (arith, ih (rw (t, tally) at e), record-length b n 0, leb-true (length (recordOf n b)) q t, suc-mul (suc (tally n l (q - length (recordOf n b)) es .forms)) (3 * n)))
+      go false t ih = rw (t, tally) (omega (arith, record-length b n 0, leb-false (length (recordOf n b)) q t))
+  room-full (stepped r ∷ es) zero q e = let w : false ≡ true = cc in absurd (false≢true w)
+  room-full (stepped r ∷ es) (suc l) q e = room-full es l q e
+
+-- every step's record has four bytes
+abbrev Four : Event → Type 0
+Four (formed b) = Unit {0}
+Four (stepped r) = length r ≡ 4
+
+module _ (n k : ℕ) where
+  trace-long : (es : List Event) → Each Four es → (l q : ℕ) → length (tally n l q es .trace) ≡ 4 * tally n l q es .steps
+  trace-long [] f l q = refl
+  trace-long (formed b ∷ es) f l q = go (leb (length (recordOf n b)) q) refl (trace-long es (f .1) l (q - length (recordOf n b)))
+    where
+      go : (t : Bool) → leb (length (recordOf n b)) q ≡ t → length (tally n l (q - length (recordOf n b)) es .trace) ≡ 4 * tally n l (q - length (recordOf n b)) es .steps → length (tally n l q (formed b ∷ es) .trace) ≡ 4 * tally n l q (formed b ∷ es) .steps
+      go true t ih = rw (t, tally) ih
+      go false t ih = rw (t, tally)
+  trace-long (stepped r ∷ es) f zero q = refl
+  trace-long (stepped r ∷ es) f (suc l) q = omega (arith, length-append r (tally n l q es .trace), f .0, trace-long es (f .1) l q)
+
+  module _ (ls : List Constraint) where
+    next-four : (b : Branch) (o : Option Candidate) (r : List ℕ) (cs : List Branch) → Ru.stepped k b o ≡ step r cs → length r ≡ 4
+    next-four b none r cs e = let w : false ≡ true = cc in absurd (false≢true w)
+    next-four b (some p) r cs e = let z : (p .move .rule ∷ p .constraint ∷ p .concerned ∷ length (children k b (p .move)) ∷ []) ≡ r = cc in ap (length {A = ℕ}) (sym z)
+
+    gather-four : (f : Branch → List Event) → ((b : Branch) → Each Four (f b)) → (cs : List Branch) → Each Four (gather f cs)
+    gather-four f h [] = tt
+    gather-four f h (c ∷ cs) = Each-app Four (f c) (gather f cs) (h c) (gather-four f h cs)
+
+    log-four : (fuel : ℕ) (b : Branch) → Each Four (log n k ls fuel b)
+    log-four zero b = (tt, tt)
+    log-four (suc fuel) b = go (next n k ls b) refl (log-four fuel)
+      where
+        go : (x : Next) → next n k ls b ≡ x → ((b : Branch) → Each Four (log n k ls fuel b)) → Each Four (log n k ls (suc fuel) b)
+        go solved q ih = rw (q, log) (tt, tt)
+        go (step r cs) q ih = rw (q, log) (next-four b (first (λ (p : Candidate). applies (known b) (p .move)) (places n ls b)) r cs q, gather-four (log n k ls fuel) ih cs)
+
+-- ---- the buffers
+
+pub listed-app : (size c : ℕ) (xs ys : List ℕ) → length xs ≡ c * size → listedForms size c (xs ++ ys) ≡ listedForms size c xs
+listed-app size zero xs ys e = refl
+listed-app size (suc c) xs ys e =
+    let l : size ≤ length xs = omega (arith, e, suc-mul c size) in
+    let d : length (drop size xs) ≡ c * size = omega (arith, length-drop size xs, e, suc-mul c size) in
+    rw (take-append-le size xs ys l, drop-append-le size xs ys l, listed-app size c (drop size xs) ys d)
+
+-- ---- what a call is
+
+asked-one : (bytes : List ℕ) (budget room : ℕ) (prob : Problem) → read bytes ≡ parsed prob → (asked bytes budget room ≡ parsed prob) ⊎ ((n : ℕ) × (asked bytes budget room ≡ refused n))
+unfolding asked _>>=_ ask
+asked-one bytes budget room prob e = go (leb budget 10000) (leb (4 * budget) room) refl refl
+  where
+    go : (a b : Bool) → leb budget 10000 ≡ a → leb (4 * budget) room ≡ b → (asked bytes budget room ≡ parsed prob) ⊎ ((n : ℕ) × (asked bytes budget room ≡ refused n))
+    go true true p q = inl (rw (e, p, q))
+    go true false p q = inr (13, rw (e, p, q))
+    go false b p q = inr (12, rw (e, p))
+
+asked-read : (bytes : List ℕ) (budget room : ℕ) (prob : Problem) → asked bytes budget room ≡ parsed prob → read bytes ≡ parsed prob
+unfolding asked _>>=_ ask
+asked-read bytes budget room prob e = go (read bytes) refl
+  where
+    go : (m : Parsed Problem) → read bytes ≡ m → read bytes ≡ parsed prob
+    go (refused n) q = let z : _≡_ {A = Parsed Problem} (refused n) (parsed prob) = rw (q, asked) at e in let w : false ≡ true = cc in absurd (false≢true w)
+    go (parsed s) q = q ∙ same (leb budget 10000) (leb (4 * budget) room) refl refl
+      where
+        same : (a b : Bool) → leb budget 10000 ≡ a → leb (4 * budget) room ≡ b → _≡_ {A = Parsed Problem} (parsed s) (parsed prob)
+        same true true x y = rw (q, x, y, asked) at e
+        same true false x y = let z : _≡_ {A = Parsed Problem} (refused 13) (parsed prob) = rw (q, x, y, asked) at e in let w : false ≡ true = cc in absurd (false≢true w)
+        same false b x y = let z : _≡_ {A = Parsed Problem} (refused 12) (parsed prob) = rw (q, x, asked) at e in let w : false ≡ true = cc in absurd (false≢true w)
+
+pub record Was (bytes : List ℕ) (budget : ℕ) (forms trace : List ℕ) (prob : Problem) (v : Verdict) (n c : ℕ) : Type 0 where
+  pub forms-are : call bytes budget forms trace .forms ≡ over (run prob budget (length forms) .records) forms
+  pub trace-is : call bytes budget forms trace .trace ≡ over (run prob budget (length forms) .trace) trace
+  pub verdict-is : verdictOf (run prob budget (length forms) .end) (run prob budget (length forms) .forms) ≡ v
+  pub steps-are : run prob budget (length forms) .steps ≡ n
+  pub count-is : run prob budget (length forms) .forms ≡ c
+
+pub was : (bytes : List ℕ) (budget : ℕ) (forms trace : List ℕ) (prob : Problem) → read bytes ≡ parsed prob → (v : Verdict) (n c : ℕ) → call bytes budget forms trace .answer ≡ ended v n c → Was bytes budget forms trace prob v n c
+unfolding call
+was bytes budget forms trace prob e v n c a = go (asked-one bytes budget (length trace) prob e)
+  where
+    go : (asked bytes budget (length trace) ≡ parsed prob) ⊎ ((m : ℕ) × (asked bytes budget (length trace) ≡ refused m)) → Was bytes budget forms trace prob v n c
+    go (inl q) =
+        let z : ended (verdictOf (run prob budget (length forms) .end) (run prob budget (length forms) .forms)) (run prob budget (length forms) .steps) (run prob budget (length forms) .forms) ≡ ended v n c = rw (q, call) at a in
+        record { forms-are = rw (q, call); trace-is = rw (q, call); verdict-is = cc; steps-are = cc; count-is = cc }
+    go (inr (m, q)) = let z : refusal m ≡ ended v n c = rw (q, call) at a in let w : false ≡ true = cc in absurd (false≢true w)
+
+finished : (e : R.End) (c : ℕ) (v : Verdict) → verdictOf e c ≡ v → (v ≡ FORMS) ⊎ (v ≡ FALSE) → e ≡ R.DONE
+finished R.DONE c v p q = refl
+finished R.SPENT c v p (inl q) = let w : false ≡ true = cc in absurd (false≢true w)
+finished R.SPENT c v p (inr q) = let w : false ≡ true = cc in absurd (false≢true w)
+finished R.NOROOM c v p (inl q) = let w : false ≡ true = cc in absurd (false≢true w)
+finished R.NOROOM c v p (inr q) = let w : false ≡ true = cc in absurd (false≢true w)
+
+pub same-solutions : SameSolutions
+same-solutions bytes budget forms trace prob e v n c a f g =
+    let w = was bytes budget forms trace prob e v n c a in
+    let acc = read-accepted bytes prob e in
+    let s : Tally = run prob budget (length forms) in
+    let d = finished (s .end) (s .forms) v (w .verdict-is) f in
+    let L : List Event = log (termCount prob) (length (prob .constants)) (prob .constraints) (termCount prob * suc (prob .sets)) (start (termCount prob)) in
+    let z : listedForms (3 * termCount prob) c (call bytes budget forms trace .forms) ≡ listedForms (3 * termCount prob) (s .forms) (s .records)
+    = rw (w .forms-are, sym (w .count-is)) (listed-app (3 * termCount prob) (s .forms) (s .records) (drop (length (s .records)) forms) (records-long (termCount prob) L budget (length forms))) in
+    subst (λ (x : List (List ℕ)). Satisfies prob g ↔ Some (SatisfiesForm prob g) x) (sym z) (run-solutions prob acc budget (length forms) d g)
+
+pub follows : Follows
+follows bytes budget forms trace prob q v n c a =
+    let e = asked-read bytes budget (length trace) prob q in
+    let w = was bytes budget forms trace prob e v n c a in
+    let acc = read-accepted bytes prob e in
+    let s : Tally = run prob budget (length forms) in
+    let L : List Event = log (termCount prob) (length (prob .constants)) (prob .constraints) (termCount prob * suc (prob .sets)) (start (termCount prob)) in
+    let g = run-goes prob acc budget (length forms) in
+    let long : length (s .records) ≡ c * (3 * termCount prob) = records-long (termCount prob) L budget (length forms) ∙ ap (λ (x : ℕ). x * (3 * termCount prob)) (w .count-is) in
+    let four : length (s .trace) ≡ 4 * n = trace-long (termCount prob) (length (prob .constants)) L (log-four (termCount prob) (length (prob .constants)) (prob .constraints) (termCount prob * suc (prob .sets)) (start (termCount prob))) budget (length forms) ∙ ap (λ (x : ℕ). 4 * x) (w .steps-are) in (
+      s .records,
+      s .trace,
+      g .0,
+      rw (w .verdict-is, w .steps-are, w .count-is) at (g .1),
+      sym (ap (take (c * (3 * termCount prob))) (w .forms-are) ∙ take-at (s .records) (drop (length (s .records)) forms) (c * (3 * termCount prob)) long),
+      sym (ap (take (4 * n)) (w .trace-is) ∙ take-at (s .trace) (drop (length (s .trace)) trace) (4 * n) four),
+      g .2,
+    )
+
+of-spent : (e : R.End) (c : ℕ) → verdictOf e c ≡ SPENT → e ≡ R.SPENT
+of-spent R.DONE zero p = let w : false ≡ true = cc in absurd (false≢true w)
+of-spent R.DONE (suc c) p = let w : false ≡ true = cc in absurd (false≢true w)
+of-spent R.SPENT c p = refl
+of-spent R.NOROOM c p = let w : false ≡ true = cc in absurd (false≢true w)
+
+of-noroom : (e : R.End) (c : ℕ) → verdictOf e c ≡ NOROOM → e ≡ R.NOROOM
+of-noroom R.DONE zero p = let w : false ≡ true = cc in absurd (false≢true w)
+of-noroom R.DONE (suc c) p = let w : false ≡ true = cc in absurd (false≢true w)
+of-noroom R.SPENT c p = let w : false ≡ true = cc in absurd (false≢true w)
+of-noroom R.NOROOM c p = refl
+
+pub stops : Stops
+stops bytes budget forms trace prob e n c =
+    let s : Tally = run prob budget (length forms) in
+    let L : List Event = log (termCount prob) (length (prob .constants)) (prob .constraints) (termCount prob * suc (prob .sets)) (start (termCount prob)) in (
+      (λ a. let w = was bytes budget forms trace prob e SPENT n c a in sym (w .steps-are) ∙ spent-all (termCount prob) L budget (length forms) (of-spent (s .end) (s .forms) (w .verdict-is))),
+      (λ a. let w = was bytes budget forms trace prob e NOROOM n c a in subst (λ (x : ℕ). length forms < suc x * (3 * termCount prob)) (w .count-is) (room-full (termCount prob) L budget (length forms) (of-noroom (s .end) (s .forms) (w .verdict-is)))),
+    )
+
+pub asks : Asks
+unfolding asked _>>=_ ask
+asks bytes budget room = (
+  (λ n q. rw q),
+  (λ prob q. (
+    (λ l. rw (q, lt-leb budget 10000 l)),
+    (λ l r. rw (q, le-leb budget 10000 l, lt-leb (4 * budget) room r)),
+    (λ l r. rw (q, le-leb budget 10000 l, le-leb (4 * budget) room r)),
+  )),
+)
+
+over-length : (xs ys : List ℕ) → length xs ≤ length ys → length (over xs ys) ≡ length ys
+over-length xs ys l = omega (arith, length-append xs (drop (length xs) ys), length-drop (length xs) ys)
+
+asked-budget : (bytes : List ℕ) (budget room : ℕ) (prob : Problem) → asked bytes budget room ≡ parsed prob → 4 * budget ≤ room
+unfolding asked _>>=_ ask
+asked-budget bytes budget room prob e = go (leb budget 10000) (leb (4 * budget) room) refl refl
+  where
+    q : read bytes ≡ parsed prob
+    q = asked-read bytes budget room prob e
+
+    go : (a b : Bool) → leb budget 10000 ≡ a → leb (4 * budget) room ≡ b → 4 * budget ≤ room
+    go true true x y = leb-true (4 * budget) room y
+    go true false x y = let z : _≡_ {A = Parsed Problem} (refused 13) (parsed prob) = rw (q, x, y, asked) at e in let w : false ≡ true = cc in absurd (false≢true w)
+    go false b x y = let z : _≡_ {A = Parsed Problem} (refused 12) (parsed prob) = rw (q, x, asked) at e in let w : false ≡ true = cc in absurd (false≢true w)
+
+pub kept : Kept
+unfolding call
+kept bytes budget forms trace = (
+  (λ n q. rw q),
+  (λ prob q.
+      let s : Tally = run prob budget (length forms) in
+      let L : List Event = log (termCount prob) (length (prob .constants)) (prob .constraints) (termCount prob * suc (prob .sets)) (start (termCount prob)) in
+      let long = records-long (termCount prob) L budget (length forms) in
+      let fit = records-fit (termCount prob) L budget (length forms) in
+      let few = steps-fit (termCount prob) L budget (length forms) in
+      let room = asked-budget bytes budget (length trace) prob q in
+      let four = trace-long (termCount prob) (length (prob .constants)) L (log-four (termCount prob) (length (prob .constants)) (prob .constraints) (termCount prob * suc (prob .sets)) (start (termCount prob))) budget (length forms) in
+      rw q (
+        verdictOf (s .end) (s .forms),
+        s .steps,
+        s .forms,
+        refl,
+        few,
+        omega (arith, long, fit),
+        over-length (s .records) forms fit,
+        drop-at (s .records) (drop (length (s .records)) forms) (s .forms * (3 * termCount prob)) long ∙ ap (λ (k : ℕ). drop k forms) long,
+        over-length (s .trace) trace (omega (arith, four, few, room)),
+        drop-at (s .trace) (drop (length (s .trace)) trace) (4 * s .steps) four ∙ ap (λ (k : ℕ). drop k trace) four,
+      )),
+)

@@ -1,0 +1,106 @@
+-- Asserting a fact keeps a branch sound.
+use mathlib.Core.Path.{_≡_, refl, sym, _∙_, ap, ap₂, subst}
+use mathlib.Core.Logic.{_⊎_, inl, inr, _↔_, _≢_}
+use mathlib.Core.Bool.{Bool, true, false, _&&_, _||_, not, cond, true≢false, false≢true}
+use mathlib.Core.Option.{Option, none, some}
+use mathlib.Core.List.{List, [], _∷_, _++_, map}
+use Prim.Native.Nat.{ℕ, zero, suc, _+_, _^_, _<_, _≤_, min, max, zero-le, suc-le-suc}
+use native.Mathlib.Omega.{arith}
+use native.Mathlib.Decide.{ℕ-discrete, decLe}
+use native.Mathlib.Nat.{le-refl}
+use lib.ListN.{length, getD, set, length-set, length-map, replicate, length-replicate, getD-replicate}
+use lib.Dec.{eqb, ltb}
+use lib.Bits.{bitOr, bitAnd}
+use borrow.Author.Tests.{eqb-true, eqb-false, eq-eqb, ne-eqb, ltb-true, ltb-false}
+use Rattle.calculus.specs.Lists.{bit, upFrom}
+use Rattle.calculus.specs.Branch.{Branch, start, rootAt, insideAt, outsideAt, Fact, In, Out, Same, known, addInside, addOutside, merge, torn, conflictIf, mergeRoots, assert, assertAll}
+use Rattle.calculus.proofs.Bools.{and-l, and-r, and-i, or-cases, or-none-l, or-none-r, not-t, not-f, clash, test}
+use Rattle.calculus.proofs.Masks.{bit-zero}
+use Rattle.calculus.proofs.Walk.{moved, moved-hi, moved-other, set-falls}
+use Rattle.calculus.proofs.Asserting.{WellFormed, Ranged, Merges, already, upper, lower, merges, inside-addInside, outside-addInside, root-addInside, inside-addOutside, outside-addOutside, root-addOutside, inside-merge, outside-merge, below, still, root, root-merge, torn-none, conflictIf-some, root-in, in-ins, in-outs}
+
+-- one more bit on one side, where the other side has it not
+one-more : (i o p : Bool) → (i && o) ≡ false → (p ≡ true → o ≡ false) → ((i || p) && o) ≡ false
+one-more true o p e f = e
+one-more false o true e f = f refl
+one-more false o false e f = refl
+
+and-flip : (a b : Bool) → (a && b) ≡ (b && a)
+and-flip true true = refl
+and-flip true false = refl
+and-flip false true = refl
+and-flip false false = refl
+
+or-no : (a b : Bool) → b ≡ false → (a || b) ≡ a
+or-no true b e = refl
+or-no false b e = e
+
+module _ (n k : ℕ) (b : Branch) (F : WellFormed n k b) where
+  addInside-fit : (h A : ℕ) → h < n → outsideAt b h A ≡ false → WellFormed n k (addInside b h A)
+  unfolding addInside
+  addInside-fit h A l e = record {
+    sized = F .sized;
+    sized-in = length-set (b .insides) h (bitOr (getD (b .insides) h 0) (2 ^ A)) ∙ F .sized-in;
+    sized-out = F .sized-out;
+    falls = F .falls;
+    fixed = λ i q. rw (root-addInside b h A i) (F .fixed i q);
+    clean = λ j B. rw (inside-addInside b h A j B (rw (F .sized-in) l), outside-addInside b h A j B)
+        (one-more (insideAt b j B) (outsideAt b j B) (eqb j h && eqb B A) (F .clean j B)
+        (λ p. rw (eqb-true j h (and-l (eqb j h) (eqb B A) p), eqb-true B A (and-r (eqb j h) (eqb B A) p)) e));
+  }
+
+  addOutside-fit : (h A : ℕ) → h < n → insideAt b h A ≡ false → WellFormed n k (addOutside b h A)
+  unfolding addOutside
+  addOutside-fit h A l e = record {
+    sized = F .sized;
+    sized-in = F .sized-in;
+    sized-out = length-set (b .outsides) h (bitOr (getD (b .outsides) h 0) (2 ^ A)) ∙ F .sized-out;
+    falls = F .falls;
+    fixed = λ i q. rw (root-addOutside b h A i) (F .fixed i q);
+    clean = λ j B. rw (inside-addOutside b h A j B, outside-addOutside b h A j B (rw (F .sized-out) l), and-flip (insideAt b j B))
+        (one-more (outsideAt b j B) (insideAt b j B) (eqb j h && eqb B A) (and-flip (outsideAt b j B) (insideAt b j B) ∙ F .clean j B)
+        (λ p. rw (eqb-true j h (and-l (eqb j h) (eqb B A) p), eqb-true B A (and-r (eqb j h) (eqb B A) p)) e));
+  }
+
+  module _ (lo hi : ℕ) (l : lo < hi) (hn : hi < n) (hk : k ≤ hi) (hl : rootAt b lo ≡ lo) (hu : rootAt b hi ≡ hi) (nt : torn (merge b lo hi) lo ≡ false) where
+    hh : (t : ℕ) → rootAt (merge b lo hi) t ≡ moved lo hi (rootAt b t)
+    hh t = root-merge n k b F lo hi l hn hl hu t
+
+    merge-clean : (j B : ℕ) → (insideAt (merge b lo hi) j B && outsideAt (merge b lo hi) j B) ≡ false
+    merge-clean j B = go (ℕ-discrete j lo)
+      where
+        go : Dec (j ≡ lo) → (insideAt (merge b lo hi) j B && outsideAt (merge b lo hi) j B) ≡ false
+        go (yes e) = rw e (torn-none (merge b lo hi) lo nt B)
+        go (no e) = rw (inside-merge b lo hi j B (rw (F .sized-in) (omega arith)), outside-merge b lo hi j B (rw (F .sized-out) (omega arith)), ne-eqb j lo e, or-no (insideAt b j B) false refl, or-no (outsideAt b j B) false refl) (F .clean j B)
+
+    merge-fit : WellFormed n k (merge b lo hi)
+    unfolding merge
+    merge-fit = record {
+      sized = length-set (b .parents) hi lo ∙ F .sized;
+      sized-in = length-set (b .insides) lo (bitOr (getD (b .insides) lo 0) (getD (b .insides) hi 0)) ∙ F .sized-in;
+      sized-out = length-set (b .outsides) lo (bitOr (getD (b .outsides) lo 0) (getD (b .outsides) hi 0)) ∙ F .sized-out;
+      falls = set-falls (b .parents) (F .falls) lo hi l (rw (F .sized) hn) (root n k b F lo hl) (root n k b F hi hu);
+      fixed = λ i q. hh i ∙ ap (moved lo hi) (F .fixed i q) ∙ moved-other lo hi i (omega arith);
+      clean = merge-clean;
+    }
+
+  mergeRoots-fit : (t u : ℕ) → t < n → u < n → rootAt b t < rootAt b u → (c : Branch) → mergeRoots k b (rootAt b t) (rootAt b u) ≡ some c → WellFormed n k c
+  mergeRoots-fit t u ht hu l c q =
+      let w = conflictIf-some (ltb (rootAt b u) k || torn (merge b (rootAt b t) (rootAt b u)) (rootAt b t)) (merge b (rootAt b t) (rootAt b u)) c q in
+      subst (WellFormed n k) (w .1)
+      (merge-fit (rootAt b t) (rootAt b u) l (omega (arith, below n k b F u)) (ltb-false (rootAt b u) k (or-none-l (ltb (rootAt b u) k) (torn (merge b (rootAt b t) (rootAt b u)) (rootAt b t)) (w .0))) (still n k b F t) (still n k b F u)
+      (or-none-r (ltb (rootAt b u) k) (torn (merge b (rootAt b t) (rootAt b u)) (rootAt b t)) (w .0)))
+
+  eq-fit : (t u : ℕ) → t < n → u < n → (o : Option Branch) → Merges k b t u o → (c : Branch) → o ≡ some c → WellFormed n k c
+  eq-fit t u ht hu o (already h) c q = let z : b ≡ c = cc in subst (WellFormed n k) z F
+  eq-fit t u ht hu o (upper h) c q = mergeRoots-fit t u ht hu h c q
+  eq-fit t u ht hu o (lower h) c q = mergeRoots-fit u t hu ht h c q
+
+  pub assert-fit : (m : ℕ) (f : Fact) → Ranged n m f → (c : Branch) → assert k b f ≡ some c → WellFormed n k c
+  assert-fit m (In t A) r c q =
+      let w = conflictIf-some (known b (Out t A)) (addInside b (rootAt b t) A) c q in
+      subst (WellFormed n k) (w .1) (addInside-fit (rootAt b t) A (omega (arith, below n k b F t)) (w .0))
+  assert-fit m (Out t A) r c q =
+      let w = conflictIf-some (known b (In t A)) (addOutside b (rootAt b t) A) c q in
+      subst (WellFormed n k) (w .1) (addOutside-fit (rootAt b t) A (omega (arith, below n k b F t)) (w .0))
+  assert-fit m (Same t u) r c q = eq-fit t u (r .0) (r .1) (assert k b (Same t u)) (merges k b t u) c q

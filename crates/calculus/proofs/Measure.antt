@@ -1,0 +1,194 @@
+-- Classes and undecided facts: their number falls with every fact that was not known.
+use mathlib.Core.Path.{_≡_, refl, sym, _∙_, ap, ap₂, subst}
+use mathlib.Core.Logic.{_⊎_, inl, inr, _↔_, _≢_}
+use mathlib.Core.Bool.{Bool, true, false, _&&_, _||_, not, cond, true≢false, false≢true}
+use mathlib.Core.Option.{Option, none, some}
+use mathlib.Core.List.{List, [], _∷_, _++_, map}
+use Prim.Native.Nat.{ℕ, zero, suc, _+_, _*_, _^_, _<_, _≤_, min, max, zero-le, suc-le-suc}
+use native.Mathlib.Omega.{arith}
+use native.Mathlib.Decide.{ℕ-discrete, decLe}
+use native.Mathlib.Nat.{le-refl, suc-mul}
+use lib.ListN.{length, getD}
+use lib.Dec.{eqb, ltb}
+use borrow.Author.Tests.{eqb-true, eqb-false, eq-eqb, ne-eqb, ltb-true, ltb-false}
+use Rattle.calculus.specs.Lists.{all}
+use Rattle.calculus.specs.Branch.{Branch, rootAt, insideAt, outsideAt, Fact, In, Out, Same, known, addInside, addOutside, merge, torn, conflictIf, mergeRoots, assert, assertAll}
+use Rattle.calculus.proofs.Bools.{and-l, and-r, and-i, or-cases, or-l, or-r, or-none-l, or-none-r, clash, test, all-cong}
+use Rattle.calculus.proofs.Walk.{moved, moved-hi, moved-other}
+use Rattle.calculus.proofs.Asserting.{WellFormed, Ranged, Merges, already, upper, lower, merges, inside-addInside, outside-addInside, root-addInside, inside-addOutside, outside-addOutside, root-addOutside, inside-merge, outside-merge, below, still, root-merge, conflictIf-some, root-in, in-ins, in-outs}
+use Rattle.calculus.proofs.Keeping.{assert-fit}
+
+abbrev pub sumBelow : ℕ → (ℕ → ℕ) → ℕ
+sumBelow zero f = 0
+sumBelow (suc n) f = f n + sumBelow n f
+
+pub sum-le : (n : ℕ) (f g : ℕ → ℕ) → ((t : ℕ) → t < n → f t ≤ g t) → sumBelow n f ≤ sumBelow n g
+sum-le zero f g h = zero-le
+sum-le (suc n) f g h = omega (arith, h n (omega arith), sum-le n f g (λ t l. h t (omega arith)))
+
+pub sum-lt : (n : ℕ) (f g : ℕ → ℕ) → ((t : ℕ) → t < n → f t ≤ g t) → (i : ℕ) → i < n → f i < g i → sumBelow n f < sumBelow n g
+sum-lt zero f g h i l p = omega arith
+sum-lt (suc n) f g h i l p = go (ℕ-discrete i n) (λ q. sum-lt n f g (λ t l′. h t (omega arith)) i q p)
+  where
+    go : Dec (i ≡ n) → (i < n → sumBelow n f < sumBelow n g) → f n + sumBelow n f < g n + sumBelow n g
+    go (yes e) ih = let p′ : f n < g n = subst (λ (j : ℕ). f j < g j) e p in omega (arith, sum-le n f g (λ t l′. h t (omega arith)))
+    go (no e) ih = omega (arith, h n (omega arith), ih (omega arith))
+
+pub sum-const : (n c : ℕ) (f : ℕ → ℕ) → ((t : ℕ) → t < n → f t ≡ c) → sumBelow n f ≡ n * c
+sum-const zero c f h = omega arith
+sum-const (suc n) c f h = omega (arith, h n (omega arith), sum-const n c f (λ t l. h t (omega arith)), suc-mul n c)
+
+-- 1 where it is undecided whether the class of h is in A
+abbrev pub open? : Branch → ℕ → ℕ → ℕ
+open? b h A = cond (insideAt b h A || outsideAt b h A) 0 1
+
+abbrev pub weight : ℕ → Branch → ℕ → ℕ
+weight m b t = cond (eqb (rootAt b t) t) (suc (sumBelow m (open? b t))) 0
+
+-- classes, and undecided pairs of a class and one of m sets
+abbrev pub measure : ℕ → ℕ → Branch → ℕ
+measure n m b = sumBelow n (weight m b)
+
+-- c knows what b knows of the class of t
+abbrev Grows : Branch → Branch → ℕ → Type 0
+Grows b c t = (A : ℕ) → (insideAt b t A || outsideAt b t A) ≡ true → (insideAt c t A || outsideAt c t A) ≡ true
+
+open-le : (b c : Branch) (t A : ℕ) → ((insideAt b t A || outsideAt b t A) ≡ true → (insideAt c t A || outsideAt c t A) ≡ true) → open? c t A ≤ open? b t A
+open-le b c t A = go (insideAt b t A || outsideAt b t A) (insideAt c t A || outsideAt c t A)
+  where
+    go : (x y : Bool) → (x ≡ true → y ≡ true) → cond y 0 1 ≤ cond x 0 1
+    go true y f = rw (f refl) zero-le
+    go false true f = zero-le
+    go false false f = le-refl 1
+
+cond-le : (x y : Bool) (a b : ℕ) → (x ≡ true → y ≡ true) → a ≤ b → cond x a 0 ≤ cond y b 0
+cond-le true y a b f h = rw (f refl) h
+cond-le false y a b f h = zero-le
+
+weight-le : (m : ℕ) (b c : Branch) (t : ℕ) → (rootAt c t ≡ t → rootAt b t ≡ t) → Grows b c t → weight m c t ≤ weight m b t
+weight-le m b c t f g =
+    cond-le (eqb (rootAt c t) t) (eqb (rootAt b t) t) (suc (sumBelow m (open? c t))) (suc (sumBelow m (open? b t)))
+    (λ e. eq-eqb (rootAt b t) t (f (eqb-true (rootAt c t) t e)))
+    (suc-le-suc (sum-le m (open? c t) (open? b t) (λ A l. open-le b c t A (g A))))
+
+-- at a root whose fact on A is decided anew
+weight-lt : (m : ℕ) (b c : Branch) (t : ℕ) → rootAt c t ≡ t → rootAt b t ≡ t → Grows b c t → (A : ℕ) → A < m → (insideAt b t A || outsideAt b t A) ≡ false → (insideAt c t A || outsideAt c t A) ≡ true → weight m c t < weight m b t
+weight-lt m b c t hc hb g A l x y =
+    rw (eq-eqb (rootAt c t) t hc, eq-eqb (rootAt b t) t hb)
+    (suc-le-suc (sum-lt m (open? c t) (open? b t) (λ B l′. open-le b c t B (g B)) A l (rw (x, y) (le-refl 1))))
+
+module _ (n k m : ℕ) (b : Branch) (F : WellFormed n k b) where
+  -- put and bar
+  addInside-grows : (h A t : ℕ) → h < n → Grows b (addInside b h A) t
+  addInside-grows h A t l B e = rw (inside-addInside b h A t B (rw (F .sized-in) l), outside-addInside b h A t B) (go (or-cases (insideAt b t B) (outsideAt b t B) e))
+    where
+      go : (insideAt b t B ≡ true) ⊎ (outsideAt b t B ≡ true) → ((insideAt b t B || (eqb t h && eqb B A)) || outsideAt b t B) ≡ true
+      go (inl p) = rw p
+      go (inr p) = or-r (insideAt b t B || (eqb t h && eqb B A)) p
+
+  addOutside-grows : (h A t : ℕ) → h < n → Grows b (addOutside b h A) t
+  addOutside-grows h A t l B e = rw (outside-addOutside b h A t B (rw (F .sized-out) l), inside-addOutside b h A t B) (go (or-cases (insideAt b t B) (outsideAt b t B) e))
+    where
+      go : (insideAt b t B ≡ true) ⊎ (outsideAt b t B ≡ true) → (insideAt b t B || (outsideAt b t B || (eqb t h && eqb B A))) ≡ true
+      go (inl p) = rw p
+      go (inr p) = or-r (insideAt b t B) (or-l (eqb t h && eqb B A) p)
+
+  addInside-le : (h A : ℕ) → h < n → measure n m (addInside b h A) ≤ measure n m b
+  addInside-le h A l = sum-le n (weight m (addInside b h A)) (weight m b) (λ t q. weight-le m b (addInside b h A) t (λ e. sym (root-addInside b h A t) ∙ e) (addInside-grows h A t l))
+
+  addOutside-le : (h A : ℕ) → h < n → measure n m (addOutside b h A) ≤ measure n m b
+  addOutside-le h A l = sum-le n (weight m (addOutside b h A)) (weight m b) (λ t q. weight-le m b (addOutside b h A) t (λ e. sym (root-addOutside b h A t) ∙ e) (addOutside-grows h A t l))
+
+  addInside-lt : (h A : ℕ) → h < n → A < m → rootAt b h ≡ h → insideAt b h A ≡ false → outsideAt b h A ≡ false → measure n m (addInside b h A) < measure n m b
+  addInside-lt h A l la e i o =
+      sum-lt n (weight m (addInside b h A)) (weight m b) (λ t q. weight-le m b (addInside b h A) t (λ e. sym (root-addInside b h A t) ∙ e) (addInside-grows h A t l)) h l
+      (weight-lt m b (addInside b h A) h (root-addInside b h A h ∙ e) e (addInside-grows h A h l) A la (rw (i, o)) (rw (inside-addInside b h A h A (rw (F .sized-in) l), i, eq-eqb h h refl, eq-eqb A A refl)))
+
+  addOutside-lt : (h A : ℕ) → h < n → A < m → rootAt b h ≡ h → insideAt b h A ≡ false → outsideAt b h A ≡ false → measure n m (addOutside b h A) < measure n m b
+  addOutside-lt h A l la e i o =
+      sum-lt n (weight m (addOutside b h A)) (weight m b) (λ t q. weight-le m b (addOutside b h A) t (λ e. sym (root-addOutside b h A t) ∙ e) (addOutside-grows h A t l)) h l
+      (weight-lt m b (addOutside b h A) h (root-addOutside b h A h ∙ e) e (addOutside-grows h A h l) A la (rw (i, o)) (or-r (insideAt (addOutside b h A) h A) (rw (outside-addOutside b h A h A (rw (F .sized-out) l), o, eq-eqb h h refl, eq-eqb A A refl))))
+
+  merge-lt : (lo hi : ℕ) → lo < hi → hi < n → rootAt b lo ≡ lo → rootAt b hi ≡ hi → measure n m (merge b lo hi) < measure n m b
+  merge-lt lo hi l hn el eh =
+      sum-lt n (weight m (merge b lo hi)) (weight m b) (λ t q. weight-le m b (merge b lo hi) t (back t) (grows t)) hi hn
+      (rw (hh hi, eh, moved-hi lo hi, ne-eqb lo hi (omega arith), eq-eqb hi hi refl) (suc-le-suc zero-le))
+    where
+      hh : (t : ℕ) → rootAt (merge b lo hi) t ≡ moved lo hi (rootAt b t)
+      hh t = root-merge n k b F lo hi l hn el eh t
+
+      back : (t : ℕ) → rootAt (merge b lo hi) t ≡ t → rootAt b t ≡ t
+      back t e = go (ℕ-discrete (rootAt b t) hi)
+        where
+          go : Dec (rootAt b t ≡ hi) → rootAt b t ≡ t
+          go (yes p) = let z : lo ≡ t = sym (moved-hi lo hi) ∙ ap (moved lo hi) (sym p) ∙ sym (hh t) ∙ e in absurd (let w : lo ≡ hi = sym el ∙ ap (rootAt b) z ∙ p in omega arith)
+          go (no p) = sym (moved-other lo hi (rootAt b t) p) ∙ sym (hh t) ∙ e
+
+      grows : (t : ℕ) → Grows b (merge b lo hi) t
+      grows t B e = rw (inside-merge b lo hi t B (rw (F .sized-in) (omega arith)), outside-merge b lo hi t B (rw (F .sized-out) (omega arith))) (go (or-cases (insideAt b t B) (outsideAt b t B) e))
+        where
+          go : (insideAt b t B ≡ true) ⊎ (outsideAt b t B ≡ true) → ((insideAt b t B || (eqb t lo && insideAt b hi B)) || (outsideAt b t B || (eqb t lo && outsideAt b hi B))) ≡ true
+          go (inl p) = rw p
+          go (inr p) = or-r (insideAt b t B || (eqb t lo && insideAt b hi B)) (or-l (eqb t lo && outsideAt b hi B) p)
+
+  mergeRoots-lt : (t u : ℕ) → t < n → u < n → rootAt b t < rootAt b u → (c : Branch) → mergeRoots k b (rootAt b t) (rootAt b u) ≡ some c → measure n m c < measure n m b
+  mergeRoots-lt t u ht hu l c q =
+      subst (λ (d : Branch). measure n m d < measure n m b) (conflictIf-some (ltb (rootAt b u) k || torn (merge b (rootAt b t) (rootAt b u)) (rootAt b t)) (merge b (rootAt b t) (rootAt b u)) c q .1)
+      (merge-lt (rootAt b t) (rootAt b u) l (root-in n k m b F u hu) (still n k b F t) (still n k b F u))
+
+  eq-lt : (t u : ℕ) → t < n → u < n → (o : Option Branch) → Merges k b t u o → (c : Branch) → o ≡ some c → eqb (rootAt b t) (rootAt b u) ≡ false → measure n m c < measure n m b
+  eq-lt t u ht hu o (already h) c q e = absurd (eqb-false (rootAt b t) (rootAt b u) e h)
+  eq-lt t u ht hu o (upper h) c q e = mergeRoots-lt t u ht hu h c q
+  eq-lt t u ht hu o (lower h) c q e = mergeRoots-lt u t hu ht h c q
+
+  -- a fact that was not known
+  pub assert-falls : (f : Fact) → Ranged n m f → known b f ≡ false → (c : Branch) → assert k b f ≡ some c → measure n m c < measure n m b
+  assert-falls (In t A) r e c q =
+      let w = conflictIf-some (known b (Out t A)) (addInside b (rootAt b t) A) c q in
+      subst (λ (d : Branch). measure n m d < measure n m b) (w .1) (addInside-lt (rootAt b t) A (root-in n k m b F t (r .0)) (r .1) (still n k b F t) e (w .0))
+  assert-falls (Out t A) r e c q =
+      let w = conflictIf-some (known b (In t A)) (addOutside b (rootAt b t) A) c q in
+      subst (λ (d : Branch). measure n m d < measure n m b) (w .1) (addOutside-lt (rootAt b t) A (root-in n k m b F t (r .0)) (r .1) (still n k b F t) (w .0) e)
+  assert-falls (Same t u) r e c q = eq-lt t u (r .0) (r .1) (assert k b (Same t u)) (merges k b t u) c q e
+
+  -- a fact that was known changes nothing that the branch knows
+  or-absorb : (a p : Bool) → (p ≡ true → a ≡ true) → (a || p) ≡ a
+  or-absorb true p f = refl
+  or-absorb false true f = sym (f refl)
+  or-absorb false false f = refl
+
+  addInside-same : (t A : ℕ) → t < n → known b (In t A) ≡ true → (g : Fact) → known (addInside b (rootAt b t) A) g ≡ known b g
+  addInside-same t A l e (In u B) = rw (root-addInside b (rootAt b t) A u, inside-addInside b (rootAt b t) A (rootAt b u) B (in-ins n k m b F t l))
+      (or-absorb (insideAt b (rootAt b u) B) (eqb (rootAt b u) (rootAt b t) && eqb B A)
+      (λ p. rw (eqb-true (rootAt b u) (rootAt b t) (and-l (eqb (rootAt b u) (rootAt b t)) (eqb B A) p), eqb-true B A (and-r (eqb (rootAt b u) (rootAt b t)) (eqb B A) p)) e))
+  addInside-same t A l e (Out u B) = rw (root-addInside b (rootAt b t) A u, outside-addInside b (rootAt b t) A (rootAt b u) B)
+  addInside-same t A l e (Same x y) = rw (root-addInside b (rootAt b t) A x, root-addInside b (rootAt b t) A y)
+
+  addOutside-same : (t A : ℕ) → t < n → known b (Out t A) ≡ true → (g : Fact) → known (addOutside b (rootAt b t) A) g ≡ known b g
+  addOutside-same t A l e (Out u B) = rw (root-addOutside b (rootAt b t) A u, outside-addOutside b (rootAt b t) A (rootAt b u) B (in-outs n k m b F t l))
+      (or-absorb (outsideAt b (rootAt b u) B) (eqb (rootAt b u) (rootAt b t) && eqb B A)
+      (λ p. rw (eqb-true (rootAt b u) (rootAt b t) (and-l (eqb (rootAt b u) (rootAt b t)) (eqb B A) p), eqb-true B A (and-r (eqb (rootAt b u) (rootAt b t)) (eqb B A) p)) e))
+  addOutside-same t A l e (In u B) = rw (root-addOutside b (rootAt b t) A u, inside-addOutside b (rootAt b t) A (rootAt b u) B)
+  addOutside-same t A l e (Same x y) = rw (root-addOutside b (rootAt b t) A x, root-addOutside b (rootAt b t) A y)
+
+  eq-same : (t u : ℕ) → rootAt b t ≡ rootAt b u → (o : Option Branch) → Merges k b t u o → (c : Branch) → o ≡ some c → b ≡ c
+  eq-same t u h o (already _) c q = cc
+  eq-same t u h o (upper l) c q = absurd (omega arith)
+  eq-same t u h o (lower l) c q = absurd (omega arith)
+
+  pub assert-same : (f : Fact) → Ranged n m f → known b f ≡ true → (c : Branch) → assert k b f ≡ some c → (g : Fact) → known c g ≡ known b g
+  assert-same (In t A) r e c q g = subst (λ (d : Branch). known d g ≡ known b g) (conflictIf-some (known b (Out t A)) (addInside b (rootAt b t) A) c q .1) (addInside-same t A (r .0) e g)
+  assert-same (Out t A) r e c q g = subst (λ (d : Branch). known d g ≡ known b g) (conflictIf-some (known b (In t A)) (addOutside b (rootAt b t) A) c q .1) (addOutside-same t A (r .0) e g)
+  assert-same (Same t u) r e c q g = subst (λ (d : Branch). known d g ≡ known b g) (eq-same t u (eqb-true (rootAt b t) (rootAt b u) e) (assert k b (Same t u)) (merges k b t u) c q) refl
+
+  assert-le-known : (f : Fact) → Ranged n m f → known b f ≡ true → (c : Branch) → assert k b f ≡ some c → measure n m c ≤ measure n m b
+  assert-le-known (In t A) r e c q = subst (λ (d : Branch). measure n m d ≤ measure n m b) (conflictIf-some (known b (Out t A)) (addInside b (rootAt b t) A) c q .1) (addInside-le (rootAt b t) A (root-in n k m b F t (r .0)))
+  assert-le-known (Out t A) r e c q = subst (λ (d : Branch). measure n m d ≤ measure n m b) (conflictIf-some (known b (In t A)) (addOutside b (rootAt b t) A) c q .1) (addOutside-le (rootAt b t) A (root-in n k m b F t (r .0)))
+  assert-le-known (Same t u) r e c q = subst (λ (d : Branch). measure n m d ≤ measure n m b) (eq-same t u (eqb-true (rootAt b t) (rootAt b u) e) (assert k b (Same t u)) (merges k b t u) c q) (le-refl (measure n m b))
+
+  pub assert-le : (f : Fact) → Ranged n m f → (c : Branch) → assert k b f ≡ some c → measure n m c ≤ measure n m b
+  assert-le f r c q = go (test (known b f))
+    where
+      go : (known b f ≡ true) ⊎ (known b f ≡ false) → measure n m c ≤ measure n m b
+      go (inl e) = assert-le-known f r e c q
+      go (inr e) = omega (arith, assert-falls f r e c q)

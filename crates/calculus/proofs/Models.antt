@@ -1,0 +1,271 @@
+-- The listed records: their shape, and their worked assignments.
+use mathlib.Core.Path.{_≡_, refl, sym, _∙_, ap, ap₂, subst, fun-ext}
+use mathlib.Core.Logic.{_↔_, _≢_, _⊎_, inl, inr}
+use mathlib.Core.Bool.{Bool, true, false, _&&_, cond, false≢true}
+use mathlib.Core.Option.{Option, none, some}
+use mathlib.Core.List.{List, [], _∷_, _++_, map}
+use Prim.Native.Nat.{ℕ, zero, suc, _+_, _-_, _*_, _^_, _<_, _≤_, zero-le}
+use native.Mathlib.Omega.{arith}
+use native.Mathlib.Decide.{decLt}
+use native.Mathlib.Nat.{le-of-eq}
+use lib.ListN.{length, getD, take, drop, List·getD-eq-default}
+use lib.Seq.{take-at, drop-at}
+use lib.Dec.{leb, eqb}
+use lib.IntN.{ℤ, pos}
+use borrow.Author.Tests.{eqb-true}
+use Rattle.calculus.specs.Lists.{bit, upFrom, keep, Each, Some, here, there, gather}
+use Rattle.calculus.specs.Meaning.{Constraint, Valuation, Holds}
+use Rattle.calculus.specs.Branch.{Branch, start, rootAt, insideAt, outsideAt, Fact, assert}
+use Rattle.calculus.specs.Search.{Next, solved, step, next, rootsOf}
+use Rattle.calculus.specs.Log.{Event, formed, stepped, log, formsOf}
+use Rattle.calculus.specs.Problem.{Problem, termCount, Assignment, values, Satisfies, AgreesBranch, Accepted, Names, classValue, branchModel, problemForms}
+use Rattle.calculus.specs.Run.{recordFrom, recordOf, Tally, tally, run, listedForms, AgreesRecord, SatisfiesForm}
+use Rattle.calculus.specs.Reading.{parsed, read}
+use Rattle.calculus.specs.Calls.{Verdict, FORMS, FALSE, ended, over, call, modelNumber, model}
+use Rattle.calculus.specs.Demands.{Shape, Models, Verdicts}
+use Rattle.calculus.proofs.Bools.{and-i, clash, Each-app, Each-imp, Each-zip, Each-map}
+use Rattle.calculus.proofs.Walk.{walk-root}
+use Rattle.calculus.proofs.Asserting.{WellFormed, below, still, Ranged}
+use Rattle.calculus.proofs.MaskBounds.{Small, assert-small, start-small}
+use Rattle.calculus.proofs.Measure.{measure}
+use Rattle.calculus.proofs.Stepping.{step-fit, step-keeps, up-each}
+use Rattle.calculus.proofs.LogLaws.{Full}
+use Rattle.calculus.proofs.Start.{start-fit}
+use Rattle.calculus.proofs.ConstraintLaws.{constraints-in, holds-any}
+use Rattle.calculus.proofs.Solutions.{forms-full, model-both}
+use Rattle.calculus.proofs.Records.{record-length, root-byte, in-byte, out-byte, agrees-says}
+use Rattle.calculus.proofs.ReadingLaws.{read-accepted}
+use Rattle.calculus.proofs.CallLaws.{records-long, listed-app, was, same-solutions}
+
+-- ---- masks of the forms
+
+formsOf-app : (xs ys : List Event) → formsOf (xs ++ ys) ≡ formsOf xs ++ formsOf ys
+formsOf-app [] ys = refl
+formsOf-app (formed b ∷ xs) ys = ap (λ (r : List Branch). b ∷ r) (formsOf-app xs ys)
+formsOf-app (stepped r ∷ xs) ys = formsOf-app xs ys
+
+module _ (prob : Problem) (acc : Accepted prob) where
+  abbrev N : ℕ
+  N = termCount prob
+
+  abbrev K : ℕ
+  K = length (prob .constants)
+
+  abbrev M : ℕ
+  M = prob .sets
+
+  -- what asserting keeps, the start has and every form has
+  module _ (P : Branch → Type 0) (h : (f : Fact) → Ranged N M f → (c d : Branch) → P c → assert K c f ≡ some d → P d) where
+    all-kept : (f : Branch → List Event) → ((b : Branch) → WellFormed N K b → P b → Each P (formsOf (f b))) → (cs : List Branch) → Each (λ c. WellFormed N K c × P c) cs → Each P (formsOf (gather f cs))
+    all-kept f g [] e = tt
+    all-kept f g (c ∷ cs) e = rw (formsOf-app (f c) (gather f cs)) (Each-app P (formsOf (f c)) (formsOf (gather f cs)) (g c (e .0 .0) (e .0 .1)) (all-kept f g cs (e .1)))
+
+    log-kept : (fuel : ℕ) (b : Branch) → WellFormed N K b → P b → Each P (formsOf (log N K (prob .constraints) fuel b))
+    log-kept zero b F p = (p, tt)
+    log-kept (suc fuel) b F p = go (next N K (prob .constraints) b) refl (log-kept fuel)
+      where
+        go : (x : Next) → next N K (prob .constraints) b ≡ x → ((b : Branch) → WellFormed N K b → P b → Each P (formsOf (log N K (prob .constraints) fuel b))) → Each P (formsOf (log N K (prob .constraints) (suc fuel) b))
+        go solved q ih = rw (q, log) (p, tt)
+        go (step r cs) q ih = rw (q, log) (all-kept (log N K (prob .constraints) fuel) ih cs
+            (Each-zip (λ c. WellFormed N K c × (measure N M c < measure N M b)) P (λ c. WellFormed N K c × P c) cs (λ c x y. (x .0, y)) (step-fit N K M (prob .constraints) (constraints-in prob acc) b F r cs q) (step-keeps N K M (prob .constraints) (constraints-in prob acc) b F P h p r cs q)))
+
+  forms-small : Each (Small M) (problemForms prob)
+  forms-small = log-kept (Small M) (λ f r c d s q. assert-small M c s N K f r d q) (N * suc M) (start N) (start-fit N K) (start-small N M)
+
+-- ---- a record read back
+
+module _ (n k m : ℕ) (b : Branch) (F : WellFormed n k b) where
+  abbrev r : List ℕ
+  r = recordOf n b
+
+  at-root : (t : ℕ) → t < n → getD r (3 * t) 0 ≡ rootAt b t
+  at-root t l = root-byte b n 0 t l ∙ ap (rootAt b) (omega arith)
+
+  at-in : (t : ℕ) → t < n → getD r (3 * t + 1) 0 ≡ getD (b .insides) (rootAt b t) 0
+  at-in t l = in-byte b n 0 t l ∙ ap (λ (x : ℕ). getD (b .insides) (rootAt b x) 0) (omega arith)
+
+  at-out : (t : ℕ) → t < n → getD r (3 * t + 2) 0 ≡ getD (b .outsides) (rootAt b t) 0
+  at-out t l = out-byte b n 0 t l ∙ ap (λ (x : ℕ). getD (b .outsides) (rootAt b x) 0) (omega arith)
+
+  -- with any default, also past the last term, whose root is itself
+  root-default : (j s t d : ℕ) → t < j → getD (recordFrom b s j) (3 * t) d ≡ rootAt b (s + t)
+  root-default zero s t d l = absurd (omega arith)
+  root-default (suc j) s zero d l = ap (rootAt b) (omega arith)
+  root-default (suc j) s (suc t) d l =
+      let e : 3 * suc t ≡ suc (suc (suc (3 * t))) = omega arith in
+      rw e (root-default j (suc s) t d (omega arith) ∙ ap (rootAt b) (omega arith))
+
+  past : (t : ℕ) → n ≤ t → rootAt b t ≡ t
+  unfolding rootAt
+  past t l = walk-root (b .parents) (F .falls) t (List·getD-eq-default (b .parents) t {n = t} (omega (arith, F .sized)))
+
+  anywhere : (t : ℕ) → getD r (3 * t) t ≡ rootAt b t
+  anywhere t = go (decLt t n)
+    where
+      go : Dec (t < n) → getD r (3 * t) t ≡ rootAt b t
+      go (yes l) = root-default n 0 t t l ∙ ap (rootAt b) (omega arith)
+      go (no l) = List·getD-eq-default r t {n = 3 * t} (omega (arith, record-length b n 0)) ∙ sym (past t (omega arith))
+
+  root-under : (t : ℕ) → t < n → rootAt b t < n
+  root-under t l = omega (arith, below n k b F t)
+
+keep-keep : (p q s : ℕ → Bool) (xs : List ℕ) → Each (λ x. s x ≡ (p x && q x)) xs → keep s xs ≡ keep q (keep p xs)
+keep-keep p q s [] e = refl
+keep-keep p q s (x ∷ xs) e = go (p x) (q x) refl refl (keep-keep p q s xs (e .1))
+  where
+    go : (a c : Bool) → p x ≡ a → q x ≡ c → keep s xs ≡ keep q (keep p xs) → keep s (x ∷ xs) ≡ keep q (keep p (x ∷ xs))
+    go true true u v ih = rw (e .0, u, v, ih)
+    go true false u v ih = rw (e .0, u, v, ih)
+    go false c u v ih = rw (e .0, u, ih)
+
+map-keep : (f g : ℕ → ℤ) (p : ℕ → Bool) (xs : List ℕ) → ((x : ℕ) → p x ≡ true → f x ≡ g x) → map f (keep p xs) ≡ map g (keep p xs)
+map-keep f g p [] h = refl
+map-keep f g p (x ∷ xs) h = go (p x) refl (map-keep f g p xs h)
+  where
+    go : (a : Bool) → p x ≡ a → map f (keep p xs) ≡ map g (keep p xs) → map f (keep p (x ∷ xs)) ≡ map g (keep p (x ∷ xs))
+    go true u ih = rw u (ap₂ (λ (a : ℤ) (l : List ℤ). a ∷ l) (h x u) ih)
+    go false u ih = rw u ih
+
+module _ (prob : Problem) (acc : Accepted prob) (b : Branch) (F : Full (termCount prob) (length (prob .constants)) (prob .sets) (prob .constraints) (constraints-in prob acc) b) (small : Small (prob .sets) b) where
+  abbrev B : List ℕ
+  B = recordOf (termCount prob) b
+
+  numbers-are : (λ (t : ℕ). classValue prob (rootAt b t)) ≡ modelNumber prob B
+  numbers-are = fun-ext (λ t. ap (classValue prob) (sym (anywhere (termCount prob) (length (prob .constants)) (prob .sets) b (F .0) t)))
+
+  both? : ℕ → ℕ → Bool
+  both? A t = eqb (getD B (3 * t) 0) t && bit (getD B (3 * t + 1) 0) A
+
+  members-are : (A : ℕ) → map (classValue prob) (keep (λ h. insideAt b h A) (rootsOf (termCount prob) b)) ≡ map (modelNumber prob B) (keep (λ t. eqb (getD B (3 * t) 0) t && bit (getD B (3 * t + 1) 0) A) (upFrom 0 (termCount prob)))
+  unfolding insideAt
+  members-are A =
+      let e : keep (λ t. eqb (getD B (3 * t) 0) t && bit (getD B (3 * t + 1) 0) A) (upFrom 0 (termCount prob)) ≡ keep (λ h. bit (getD (b .insides) h 0) A) (keep (λ t. eqb (rootAt b t) t) (upFrom 0 (termCount prob)))
+      = keep-keep (λ t. eqb (rootAt b t) t) (λ h. bit (getD (b .insides) h 0) A) (λ t. eqb (getD B (3 * t) 0) t && bit (getD B (3 * t + 1) 0) A) (upFrom 0 (termCount prob))
+      (up-each (λ t. (eqb (getD B (3 * t) 0) t && bit (getD B (3 * t + 1) 0) A) ≡ (eqb (rootAt b t) t && bit (getD (b .insides) t 0) A)) 0 (termCount prob) (λ t _ l. same t (omega arith))) in
+      sym (ap (map (modelNumber prob B)) e ∙ map-kept (upFrom 0 (termCount prob)))
+    where
+      same : (t : ℕ) → t < termCount prob → (eqb (getD B (3 * t) 0) t && bit (getD B (3 * t + 1) 0) A) ≡ (eqb (rootAt b t) t && bit (getD (b .insides) t 0) A)
+      same t l = go (eqb (rootAt b t) t) refl
+        where
+          go : (c : Bool) → eqb (rootAt b t) t ≡ c → (eqb (getD B (3 * t) 0) t && bit (getD B (3 * t + 1) 0) A) ≡ (eqb (rootAt b t) t && bit (getD (b .insides) t 0) A)
+          go true q = rw (at-root (termCount prob) (length (prob .constants)) (prob .sets) b (F .0) t l, q, at-in (termCount prob) (length (prob .constants)) (prob .sets) b (F .0) t l, eqb-true (rootAt b t) t q)
+          go false q = rw (at-root (termCount prob) (length (prob .constants)) (prob .sets) b (F .0) t l, q)
+
+      map-kept : (xs : List ℕ) → map (modelNumber prob B) (keep (λ h. bit (getD (b .insides) h 0) A) (keep (λ t. eqb (rootAt b t) t) xs)) ≡ map (classValue prob) (keep (λ h. bit (getD (b .insides) h 0) A) (keep (λ t. eqb (rootAt b t) t) xs))
+      map-kept [] = refl
+      map-kept (x ∷ xs) = go (eqb (rootAt b x) x) (bit (getD (b .insides) x 0) A) refl refl (map-kept xs)
+        where
+          go : (c d : Bool) → eqb (rootAt b x) x ≡ c → bit (getD (b .insides) x 0) A ≡ d
+              → map (modelNumber prob B) (keep (λ h. bit (getD (b .insides) h 0) A) (keep (λ t. eqb (rootAt b t) t) xs)) ≡ map (classValue prob) (keep (λ h. bit (getD (b .insides) h 0) A) (keep (λ t. eqb (rootAt b t) t) xs))
+              → map (modelNumber prob B) (keep (λ h. bit (getD (b .insides) h 0) A) (keep (λ t. eqb (rootAt b t) t) (x ∷ xs))) ≡ map (classValue prob) (keep (λ h. bit (getD (b .insides) h 0) A) (keep (λ t. eqb (rootAt b t) t) (x ∷ xs)))
+          go true true u v ih = rw (u, v) (ap₂ (λ (a : ℤ) (l : List ℤ). a ∷ l) (ap (classValue prob) (anywhere (termCount prob) (length (prob .constants)) (prob .sets) b (F .0) x ∙ eqb-true (rootAt b x) x u)) ih)
+          go true false u v ih = rw (u, v) ih
+          go false d u v ih = rw u ih
+
+  settings-are : branchModel prob b ≡ model prob B
+  settings-are = λ i. record { number = λ j. numbers-are i (length (prob .constants) + j); members = λ A. members-are A i }
+
+  shape : Shape prob B
+  unfolding insideAt outsideAt
+  shape =
+      let n : ℕ = termCount prob in
+      let k : ℕ = length (prob .constants) in
+      let m : ℕ = prob .sets in
+      let hd = at-root n k m b (F .0) in
+      let hi = at-in n k m b (F .0) in
+      let ho = at-out n k m b (F .0) in
+      let un = root-under n k m b (F .0) in
+      record {
+        long = record-length b n 0;
+        lowest = λ t u lt lu e. omega (arith, e, hd u lu, below n k b (F .0) u);
+        own = λ t l. rw (hd t l) (hd (rootAt b t) (un t l) ∙ still n k b (F .0) t);
+        constants = λ t l. hd t (omega arith) ∙ F .0 .fixed t l;
+        shows = λ t l. (
+          rw (hd t l) (hi t l ∙ sym (hi (rootAt b t) (un t l) ∙ ap (λ (x : ℕ). getD (b .insides) x 0) (still n k b (F .0) t))),
+          rw (hd t l) (ho t l ∙ sym (ho (rootAt b t) (un t l) ∙ ap (λ (x : ℕ). getD (b .outsides) x 0) (still n k b (F .0) t))),
+        );
+        masks = λ t l. (rw (hi t l) (small .insides (rootAt b t)), rw (ho t l) (small .outsides (rootAt b t)));
+        clear = λ t A l p q. false≢true (sym (F .0 .clean (rootAt b t) A) ∙ and-i (ap (λ (x : ℕ). bit x A) (sym (hi t l)) ∙ p) (ap (λ (x : ℕ). bit x A) (sym (ho t l)) ∙ q));
+      }
+
+  -- what is asked of a listed record
+  abbrev Model : List ℕ → Type 0
+  Model r = Satisfies prob (model prob r) × AgreesRecord (termCount prob) (values prob (model prob r) (modelNumber prob r)) r × Shape prob r
+
+  model-true : Satisfies prob (model prob B) × AgreesRecord (termCount prob) (values prob (model prob B) (modelNumber prob B)) B × Shape prob B
+  model-true =
+      let w = model-both prob acc b F in
+      let meets : Satisfies prob (branchModel prob b) = Each-zip (Names prob) (Holds (values prob (branchModel prob b) (λ t. classValue prob (rootAt b t)))) (Holds (values prob (branchModel prob b) (λ _. pos 0))) (prob .constraints)
+      (λ l a q. holds-any prob acc (branchModel prob b) (λ t. classValue prob (rootAt b t)) (λ _. pos 0) l a q) (acc .variables) (w .1) in
+      let factOf : AgreesRecord (termCount prob) (values prob (branchModel prob b) (λ t. classValue prob (rootAt b t))) B = agrees-says (termCount prob) (values prob (branchModel prob b) (λ t. classValue prob (rootAt b t))) b (w .0) in (
+        subst (Satisfies prob) settings-are meets,
+        subst (λ (f : ℕ → ℤ). AgreesRecord (termCount prob) (values prob (model prob B) f) B) numbers-are (subst (λ (g : Assignment). AgreesRecord (termCount prob) (values prob g (λ t. classValue prob (rootAt b t))) B) settings-are factOf),
+        shape,
+      )
+
+-- ---- what a run lists, however it ended
+
+module _ (n : ℕ) where
+  lists : (es : List Event) (l q : ℕ) → listedForms (3 * n) (tally n l q es .forms) (tally n l q es .records) ≡ map (recordOf n) (take (tally n l q es .forms) (formsOf es))
+  lists [] l q = refl
+  lists (formed b ∷ es) l q = go (leb (length (recordOf n b)) q) refl (lists es l (q - length (recordOf n b)))
+    where
+      go : (t : Bool) → leb (length (recordOf n b)) q ≡ t
+          → listedForms (3 * n) (tally n l (q - length (recordOf n b)) es .forms) (tally n l (q - length (recordOf n b)) es .records) ≡ map (recordOf n) (take (tally n l (q - length (recordOf n b)) es .forms) (formsOf es))
+          → listedForms (3 * n) (tally n l q (formed b ∷ es) .forms) (tally n l q (formed b ∷ es) .records) ≡ map (recordOf n) (take (tally n l q (formed b ∷ es) .forms) (formsOf (formed b ∷ es)))
+      go true t ih = rw (t, tally) (ap₂ (λ (x : List ℕ) (y : List (List ℕ)). x ∷ y) (take-at (recordOf n b) (tally n l (q - length (recordOf n b)) es .records) (3 * n) (record-length b n 0)) (rw (drop-at (recordOf n b) (tally n l (q - length (recordOf n b)) es .records) (3 * n) (record-length b n 0)) ih))
+      go false t ih = rw (t, tally)
+  lists (stepped r ∷ es) zero q = refl
+  lists (stepped r ∷ es) (suc l) q = lists es l q
+
+each-take : (P : Branch → Type 0) (c : ℕ) (bs : List Branch) → Each P bs → Each P (take c bs)
+each-take P zero bs e = tt
+each-take P (suc c) [] e = tt
+each-take P (suc c) (b ∷ bs) e = (e .0, each-take P c bs (e .1))
+
+pub models : Models
+models bytes budget forms trace prob e v n c a =
+    let w = was bytes budget forms trace prob e v n c a in
+    let acc = read-accepted bytes prob e in
+    let s : Tally = run prob budget (length forms) in
+    let L : List Event = log (termCount prob) (length (prob .constants)) (prob .constraints) (termCount prob * suc (prob .sets)) (start (termCount prob)) in
+    let z : listedForms (3 * termCount prob) c (call bytes budget forms trace .forms) ≡ map (recordOf (termCount prob)) (take (s .forms) (formsOf L))
+    = rw (w .forms-are, sym (w .count-is)) (listed-app (3 * termCount prob) (s .forms) (s .records) (drop (length (s .records)) forms) (records-long (termCount prob) L budget (length forms)) ∙ lists (termCount prob) L budget (length forms)) in
+    subst (Each Fine) (sym z)
+    (Each-map Fine (recordOf (termCount prob)) (take (s .forms) (formsOf L))
+    (each-take (λ b. Fine (recordOf (termCount prob) b)) (s .forms) (formsOf L)
+    (Each-zip (Full (termCount prob) (length (prob .constants)) (prob .sets) (prob .constraints) (constraints-in prob acc)) (Small (prob .sets)) (λ b. Fine (recordOf (termCount prob) b)) (formsOf L) (λ b F m. model-true prob acc b F m) (forms-full prob acc) (forms-small prob acc))))
+  where
+    Fine : List ℕ → Type 0
+    Fine r = Satisfies prob (model prob r) × AgreesRecord (termCount prob) (values prob (model prob r) (modelNumber prob r)) r × Shape prob r
+
+of-false : (e : Rattle.calculus.specs.Run.End) (c : ℕ) → Rattle.calculus.specs.Calls.verdictOf e c ≡ FALSE → c ≡ 0
+of-false Rattle.calculus.specs.Run.DONE zero p = refl
+of-false Rattle.calculus.specs.Run.DONE (suc c) p = let w : false ≡ true = cc in absurd (false≢true w)
+of-false Rattle.calculus.specs.Run.SPENT c p = let w : false ≡ true = cc in absurd (false≢true w)
+of-false Rattle.calculus.specs.Run.NOROOM c p = let w : false ≡ true = cc in absurd (false≢true w)
+
+of-forms : (e : Rattle.calculus.specs.Run.End) (c : ℕ) → Rattle.calculus.specs.Calls.verdictOf e c ≡ FORMS → 0 < c
+of-forms Rattle.calculus.specs.Run.DONE zero p = let w : false ≡ true = cc in absurd (false≢true w)
+of-forms Rattle.calculus.specs.Run.DONE (suc c) p = omega arith
+of-forms Rattle.calculus.specs.Run.SPENT c p = let w : false ≡ true = cc in absurd (false≢true w)
+of-forms Rattle.calculus.specs.Run.NOROOM c p = let w : false ≡ true = cc in absurd (false≢true w)
+
+pub verdicts : Verdicts
+verdicts bytes budget forms trace prob e n c = (
+  (λ a.
+      let w = was bytes budget forms trace prob e FALSE n c a in
+      let z : c ≡ 0 = sym (w .count-is) ∙ of-false (run prob budget (length forms) .end) (run prob budget (length forms) .forms) (w .verdict-is) in
+      (z, λ g h. gone g (subst (λ (x : ℕ). Some (SatisfiesForm prob g) (listedForms (3 * termCount prob) x (call bytes budget forms trace .forms))) z (same-solutions bytes budget forms trace prob e FALSE n c a (inr refl) g .0 h)))),
+  (λ a.
+      let w = was bytes budget forms trace prob e FORMS n c a in
+      let l : 0 < c = subst (λ (x : ℕ). 0 < x) (w .count-is) (of-forms (run prob budget (length forms) .end) (run prob budget (length forms) .forms) (w .verdict-is)) in
+      (l, one c l (models bytes budget forms trace prob e FORMS n c a))),
+)
+  where
+    gone : (g : Assignment) → Some (SatisfiesForm prob g) [] → ⊥
+    gone g s = elim s [ ]
+
+    one : (x : ℕ) → 0 < x → Each (λ r. Satisfies prob (model prob r) × AgreesRecord (termCount prob) (values prob (model prob r) (modelNumber prob r)) r × Shape prob r) (listedForms (3 * termCount prob) x (call bytes budget forms trace .forms)) → (g : Assignment) × Satisfies prob g
+    one zero l m = absurd (omega arith)
+    one (suc x) l m = (model prob (take (3 * termCount prob) (call bytes budget forms trace .forms)), m .0 .0)

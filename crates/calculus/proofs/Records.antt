@@ -1,0 +1,122 @@
+-- A run that ends lists every form, and the problem's solutions are those of the listed records.
+use mathlib.Core.Path.{_≡_, refl, sym, _∙_, ap, ap₂, subst}
+use mathlib.Core.Logic.{_⊎_, inl, inr, _↔_}
+use mathlib.Core.Bool.{Bool, true, false, cond, true≢false, false≢true}
+use mathlib.Core.List.{List, [], _∷_, _++_, map}
+use Prim.Native.Nat.{ℕ, zero, suc, _+_, _-_, _*_, _<_, _≤_, zero-le, suc-le-suc}
+use native.Mathlib.Omega.{arith}
+use lib.ListN.{length, getD, take, drop}
+use lib.Seq.{take-at, drop-at}
+use lib.Dec.{leb}
+use lib.IntN.{ℤ}
+use Rattle.calculus.specs.Lists.{bit, Each, Some, here, there, gather}
+use Rattle.calculus.specs.Meaning.{_∈_, Valuation, Holds}
+use Rattle.calculus.specs.Branch.{Branch, start, rootAt, insideAt, outsideAt}
+use Rattle.calculus.specs.Log.{Event, formed, stepped, log, formsOf}
+use Rattle.calculus.specs.Problem.{Problem, termCount, Assignment, values, Satisfies, SatisfiesBranch, AgreesBranch, problemForms, Accepted}
+use Rattle.calculus.specs.Run.{recordFrom, recordOf, End, DONE, SPENT, NOROOM, Tally, stop, listForm, takeStep, tally, run, listedForms, AgreesRecord, SatisfiesForm}
+use Rattle.calculus.proofs.Solutions.{solutions}
+
+-- ---- a record's bytes
+
+three : (t : ℕ) → 3 * suc t ≡ suc (suc (suc (3 * t)))
+three t = omega arith
+
+module _ (b : Branch) where
+  pub root-byte : (n s t : ℕ) → t < n → getD (recordFrom b s n) (3 * t) 0 ≡ rootAt b (s + t)
+  root-byte zero s t l = absurd (omega arith)
+  root-byte (suc n) s zero l = ap (rootAt b) (omega arith)
+  root-byte (suc n) s (suc t) l = rw (three t) (root-byte n (suc s) t (omega arith) ∙ ap (rootAt b) (omega arith))
+
+  pub in-byte : (n s t : ℕ) → t < n → getD (recordFrom b s n) (3 * t + 1) 0 ≡ getD (b .insides) (rootAt b (s + t)) 0
+  in-byte zero s t l = absurd (omega arith)
+  in-byte (suc n) s zero l = ap (λ (h : ℕ). getD (b .insides) (rootAt b h) 0) (omega arith)
+  in-byte (suc n) s (suc t) l =
+      let e : 3 * suc t + 1 ≡ suc (suc (suc (3 * t + 1))) = omega arith in
+      rw e (in-byte n (suc s) t (omega arith) ∙ ap (λ (h : ℕ). getD (b .insides) (rootAt b h) 0) (omega arith))
+
+  pub out-byte : (n s t : ℕ) → t < n → getD (recordFrom b s n) (3 * t + 2) 0 ≡ getD (b .outsides) (rootAt b (s + t)) 0
+  out-byte zero s t l = absurd (omega arith)
+  out-byte (suc n) s zero l = ap (λ (h : ℕ). getD (b .outsides) (rootAt b h) 0) (omega arith)
+  out-byte (suc n) s (suc t) l =
+      let e : 3 * suc t + 2 ≡ suc (suc (suc (3 * t + 2))) = omega arith in
+      rw e (out-byte n (suc s) t (omega arith) ∙ ap (λ (h : ℕ). getD (b .outsides) (rootAt b h) 0) (omega arith))
+
+  pub record-length : (n s : ℕ) → length (recordFrom b s n) ≡ 3 * n
+  record-length zero s = refl
+  record-length (suc n) s = omega (arith, record-length n (suc s))
+
+-- a form and its record say the same
+module _ (n : ℕ) (v : Valuation) (b : Branch) where
+  pub agrees-says : AgreesBranch n v b → AgreesRecord n v (recordOf n b)
+  unfolding insideAt outsideAt
+  agrees-says a = record {
+    merges = λ t l. a .merges t l ∙ ap (v .num) (ap (rootAt b) (omega arith) ∙ sym (root-byte b n 0 t l));
+    insides = λ t A l e. a .insides t A l (ap (λ (h : ℕ). bit (getD (b .insides) (rootAt b h) 0) A) (omega arith) ∙ ap (λ (x : ℕ). bit x A) (sym (in-byte b n 0 t l)) ∙ e);
+    outsides = λ t A l e. a .outsides t A l (ap (λ (h : ℕ). bit (getD (b .outsides) (rootAt b h) 0) A) (omega arith) ∙ ap (λ (x : ℕ). bit x A) (sym (out-byte b n 0 t l)) ∙ e);
+  }
+
+  says-agrees : AgreesRecord n v (recordOf n b) → AgreesBranch n v b
+  unfolding insideAt outsideAt
+  says-agrees a = record {
+    merges = λ t l. a .merges t l ∙ ap (v .num) (root-byte b n 0 t l ∙ ap (rootAt b) (omega arith));
+    insides = λ t A l e. a .insides t A l (ap (λ (x : ℕ). bit x A) (in-byte b n 0 t l) ∙ ap (λ (h : ℕ). bit (getD (b .insides) (rootAt b h) 0) A) (omega arith) ∙ e);
+    outsides = λ t A l e. a .outsides t A l (ap (λ (x : ℕ). bit x A) (out-byte b n 0 t l) ∙ ap (λ (h : ℕ). bit (getD (b .outsides) (rootAt b h) 0) A) (omega arith) ∙ e);
+  }
+
+-- ---- a run that ends
+
+abbrev pub merge : List (List ℕ) → List ℕ
+merge rs = gather (λ (r : List ℕ). r) rs
+
+pub listed-merge : (size : ℕ) (rs : List (List ℕ)) → Each (λ r. length r ≡ size) rs → listedForms size (length rs) (merge rs) ≡ rs
+listed-merge size [] e = refl
+listed-merge size (r ∷ rs) e = rw (take-at r (merge rs) size (e .0), drop-at r (merge rs) size (e .0), listed-merge size rs (e .1))
+
+module _ (n : ℕ) where
+  -- the forms and the records of a log, whole
+  pub done-all : (es : List Event) (left room : ℕ) → tally n left room es .end ≡ DONE
+      → (tally n left room es .records ≡ merge (map (recordOf n) (formsOf es))) × (tally n left room es .forms ≡ length (map (recordOf n) (formsOf es)))
+  done-all [] left room e = (refl, refl)
+  done-all (formed b ∷ es) left room e = go (leb (length (recordOf n b)) room) refl (done-all es left (room - length (recordOf n b)))
+    where
+      go : (t : Bool) → leb (length (recordOf n b)) room ≡ t
+          → (tally n left (room - length (recordOf n b)) es .end ≡ DONE → (tally n left (room - length (recordOf n b)) es .records ≡ merge (map (recordOf n) (formsOf es))) × (tally n left (room - length (recordOf n b)) es .forms ≡ length (map (recordOf n) (formsOf es))))
+          → (tally n left room (formed b ∷ es) .records ≡ merge (map (recordOf n) (formsOf (formed b ∷ es)))) × (tally n left room (formed b ∷ es) .forms ≡ length (map (recordOf n) (formsOf (formed b ∷ es))))
+      go true q ih = let r = ih (rw q at e) in rw q (ap (λ (l : List ℕ). recordOf n b ++ l) (r .0), ap suc (r .1))
+      go false q ih = let z : NOROOM ≡ DONE = rw q at e in let w : false ≡ true = cc in absurd (false≢true w)
+  done-all (stepped r ∷ es) zero room e = let w : false ≡ true = cc in absurd (false≢true w)
+  done-all (stepped r ∷ es) (suc left) room e = done-all es left room e
+
+  pub sizes : (bs : List Branch) → Each (λ r. length r ≡ 3 * n) (map (recordOf n) bs)
+  sizes [] = tt
+  sizes (b ∷ bs) = (record-length b n 0, sizes bs)
+
+module _ (prob : Problem) (g : Assignment) where
+  to-record : (bs : List Branch) → Some (SatisfiesBranch prob g) bs → Some (SatisfiesForm prob g) (map (recordOf (termCount prob)) bs)
+  to-record bs (here {x = b} m) = here (m .0, agrees-says (termCount prob) (values prob g (m .0)) b (m .1), m .2)
+  to-record bs (there {xs = cs} s) = there (to-record cs s)
+
+  from-record : (bs : List Branch) → Some (SatisfiesForm prob g) (map (recordOf (termCount prob)) bs) → Some (SatisfiesBranch prob g) bs
+  from-record [] s = elim s [ ]
+  from-record (b ∷ bs) s = go (cases s) (from-record bs)
+    where
+      cases : Some (SatisfiesForm prob g) (recordOf (termCount prob) b ∷ map (recordOf (termCount prob)) bs) → SatisfiesForm prob g (recordOf (termCount prob) b) ⊎ Some (SatisfiesForm prob g) (map (recordOf (termCount prob)) bs)
+      cases (here m) = inl m
+      cases (there q) = inr q
+
+      go : SatisfiesForm prob g (recordOf (termCount prob) b) ⊎ Some (SatisfiesForm prob g) (map (recordOf (termCount prob)) bs) → (Some (SatisfiesForm prob g) (map (recordOf (termCount prob)) bs) → Some (SatisfiesBranch prob g) bs) → Some (SatisfiesBranch prob g) (b ∷ bs)
+      go (inl m) ih = here (m .0, says-agrees (termCount prob) (values prob g (m .0)) b (m .1), m .2)
+      go (inr q) ih = there (ih q)
+
+-- the whole run: a assignment satisfies the problem exactly where it satisfies one of the records listed
+pub run-solutions : (prob : Problem) → Accepted prob → (budget room : ℕ) → run prob budget room .end ≡ DONE → (g : Assignment)
+    → Satisfies prob g ↔ Some (SatisfiesForm prob g) (listedForms (3 * termCount prob) (run prob budget room .forms) (run prob budget room .records))
+run-solutions prob acc budget room e g =
+    let es : List Event = log (termCount prob) (length (prob .constants)) (prob .constraints) (termCount prob * suc (prob .sets)) (start (termCount prob)) in
+    let d = done-all (termCount prob) es budget room e in
+    let rs : List (List ℕ) = map (recordOf (termCount prob)) (problemForms prob) in
+    let z : rs ≡ listedForms (3 * termCount prob) (run prob budget room .forms) (run prob budget room .records) = sym (rw (d .0, d .1) (listed-merge (3 * termCount prob) rs (sizes (termCount prob) (problemForms prob)))) in (
+      (λ h. subst (Some (SatisfiesForm prob g)) z (to-record prob g (problemForms prob) (solutions prob acc g .0 h))),
+      (λ s. solutions prob acc g .1 (from-record prob g (problemForms prob) (subst (Some (SatisfiesForm prob g)) (sym z) s))),
+    )

@@ -1,0 +1,14 @@
+pub mod Lists
+pub mod Relations
+pub mod Meaning
+pub mod Branch
+pub mod Search
+pub mod Log
+pub mod Problem
+pub mod Run
+pub mod Check
+pub mod Questions
+pub mod Reading
+pub mod Calls
+pub mod Words
+pub mod Demands

@@ -1,0 +1,90 @@
+-- The rules as data.
+use mathlib.Core.Bool.{Bool, true, false, _&&_, _||_, not, cond}
+use mathlib.Core.List.{List, [], _∷_, _++_, map}
+use Prim.Native.Nat.{ℕ, zero, suc, _+_}
+use Rattle.calculus.specs.Lists.{imp, all, any}
+
+-- A rule at a place, over any kind of fact F. It applies where every fact of `needs` is known and of no list of `unless` all facts are; each list of `gives` makes a child.
+pub record Rule (F : Type 0) : Type 0 where
+  pub rule : ℕ
+  pub premises : List F
+  pub blockers : List (List F)
+  pub alternatives : List (List F)
+
+module _ {F : Type 0} where
+  abbrev pub applies : (F → Bool) → Rule F → Bool
+  applies known s = all known (s .premises) && not (any (all known) (s .blockers))
+
+  -- a propagation rule: from `needs` follows f
+  abbrev pub propagation : ℕ → List F → F → Rule F
+  propagation r premises f = record { rule = r; premises = premises; blockers = (f ∷ []) ∷ []; alternatives = (f ∷ []) ∷ [] }
+
+  -- a split that applies unless some child's facts all hold
+  abbrev pub choice : ℕ → List (List F) → Rule F
+  choice r gs = record { rule = r; premises = []; blockers = gs; alternatives = gs }
+
+  -- what is true gives a child that is true
+  abbrev pub sound : (F → Bool) → Rule F → Bool
+  sound true? s = imp (all true? (s .premises)) (any (all true?) (s .alternatives))
+
+  -- where it applies, each child has a fact that is not known
+  abbrev pub adds : (F → Bool) → Rule F → Bool
+  adds known s = imp (applies known s) (all (λ (g : List F). not (all known g)) (s .alternatives))
+
+module _ {F G : Type 0} where
+  abbrev pub mapRule : (F → G) → Rule F → Rule G
+  mapRule f s = record { rule = s .rule; premises = map f (s .premises); blockers = map (map f) (s .blockers); alternatives = map (map f) (s .alternatives) }
+
+-- The relations between sets that hold element by element
+pub data Relation : Type 0 where
+  equal union disjoint subset intersection without : Relation
+
+-- of one element: whether it is in A, B, C
+abbrev pub holdsAt : Relation → Bool → Bool → Bool → Bool
+holdsAt equal a b c = imp a b && imp b a
+holdsAt union a b c = imp c (a || b) && imp (a || b) c
+holdsAt disjoint a b c = not (a && b)
+holdsAt subset a b c = imp a b
+holdsAt intersection a b c = imp c (a && b) && imp (a && b) c
+holdsAt without a b c = imp c (a && not b) && imp (a && not b) c
+
+-- an operand of a constraint
+pub data Operand : Type 0 where
+  A B C : Operand
+
+-- in or out of an operand
+pub data Literal : Type 0 where
+  In Out : Operand → Literal
+
+abbrev pub propagationRows : Relation → List (Rule Literal)
+propagationRows equal = propagation 5 (In A ∷ []) (In B) ∷ propagation 6 (In B ∷ []) (In A) ∷ []
+propagationRows union =
+    propagation 8 (In A ∷ []) (In C) ∷ propagation 9 (In B ∷ []) (In C)
+    ∷ propagation 10 (In C ∷ Out A ∷ []) (In B) ∷ propagation 11 (In C ∷ Out B ∷ []) (In A) ∷ []
+propagationRows disjoint = propagation 13 (In A ∷ []) (Out B) ∷ propagation 14 (In B ∷ []) (Out A) ∷ []
+propagationRows subset = propagation 15 (In A ∷ []) (In B) ∷ []
+propagationRows intersection = propagation 16 (In C ∷ []) (In A) ∷ propagation 17 (In C ∷ []) (In B) ∷ propagation 18 (In A ∷ In B ∷ []) (In C) ∷ []
+propagationRows without =
+    propagation 21 (In C ∷ []) (In A) ∷ propagation 22 (In C ∷ []) (Out B)
+    ∷ propagation 23 (In A ∷ Out B ∷ []) (In C) ∷ propagation 24 (In A ∷ Out C ∷ []) (In B) ∷ []
+
+-- p in, q and r undecided
+abbrev pub open2 : Operand → Operand → List (List Literal)
+open2 q r = (In q ∷ []) ∷ (Out q ∷ []) ∷ (In r ∷ []) ∷ (Out r ∷ []) ∷ []
+
+abbrev pub splitRows : Relation → List (Rule Literal)
+splitRows equal = []
+splitRows union = record { rule = 12; premises = In C ∷ []; blockers = open2 A B; alternatives = (In A ∷ []) ∷ (Out A ∷ In B ∷ []) ∷ [] } ∷ []
+splitRows disjoint = []
+splitRows subset = []
+splitRows intersection = []
+splitRows without = record { rule = 25; premises = In A ∷ []; blockers = open2 B C; alternatives = (In B ∷ []) ∷ (Out B ∷ In C ∷ []) ∷ [] } ∷ []
+
+-- the split of a constraint that says that the relation fails, at its witness. (There is no constraint that says so of `without`: its row closes nothing and is not used)
+abbrev pub negationRow : Relation → Rule Literal
+negationRow equal = choice 7 ((In A ∷ Out B ∷ []) ∷ (Out A ∷ In B ∷ []) ∷ [])
+negationRow union = choice 26 ((In C ∷ Out A ∷ Out B ∷ []) ∷ (In A ∷ Out C ∷ []) ∷ (In B ∷ Out C ∷ []) ∷ [])
+negationRow disjoint = choice 27 ((In A ∷ In B ∷ []) ∷ [])
+negationRow subset = choice 28 ((In A ∷ Out B ∷ []) ∷ [])
+negationRow intersection = choice 29 ((In C ∷ Out A ∷ []) ∷ (In C ∷ Out B ∷ []) ∷ (In A ∷ In B ∷ Out C ∷ []) ∷ [])
+negationRow without = choice 0 ((In C ∷ Out A ∷ []) ∷ (In C ∷ In B ∷ []) ∷ (In A ∷ Out B ∷ Out C ∷ []) ∷ [])
