@@ -7,13 +7,13 @@ use Prim.Native.Nat.{ℕ, zero, suc, _+_, _<_, _≤_}
 use native.Mathlib.Omega.{arith}
 use lib.Dec.{eqb}
 use Rattle.calculus.specs.Lists.{imp, all, any, keep, upFrom, Each, gather}
-use Rattle.calculus.specs.Relations.{Rule, applies, propagation, choice, sound, adds, mapRule, Relation, holdsAt, Operand, Literal, propagationRows, splitRows, negationRow}
+use Rattle.calculus.specs.Relations.{Rule, applies, propagation, choice, sound, adds, mapRule, Relation, holdsAt, Operand, Literal, propagationRows, splitRows, negationRow, Negation, unequal, denies}
 use Rattle.calculus.specs.Relations as R
 use Rattle.calculus.specs.Meaning.{Constraint, member, nonmember, same, different, relation, negation, exactly, interval, entries}
 use Rattle.calculus.specs.Branch.{Branch, rootAt, insideAt, outsideAt, Fact, In, Out, Same, known}
 use Rattle.calculus.specs.Search.{Move, operandOf, factOf, at, over, distinct, lists, choose, chooses, propagations, splits, rootsOf}
 use Rattle.calculus.proofs.Bools.{and-l, and-r, and-i, or-cases, or-none-l, or-none-r, imp-at, imp-i, clash, test, not-t, not-f, each-all, all-each, all-map, any-map, Each-app, Each-left, Each-right, Each-all, Each-imp, Each-zip, Each-map, map-Each, Each-gather}
-use Rattle.calculus.proofs.Tables.{litTrue, litKnown, rows, rows-add}
+use Rattle.calculus.proofs.Tables.{litTrue, litKnown, rows, rows-add, negation-add}
 use Rattle.calculus.proofs.Asserting.{WellFormed, below, still, Ranged}
 use Rattle.calculus.proofs.RuleLaws.{adds-steer, known-says, ConstraintIn, over-each, Each-swap}
 
@@ -56,12 +56,12 @@ module _ (n k m : ℕ) (b : Branch) (F : WellFormed n k b) where
   picks A B C l R.B = l .1
   picks A B C l R.C = l .2
 
-  rows-tame : (K : Relation) (A B C : ℕ) → (A < m) × (B < m) × (C < m) → (h : ℕ) → Each (λ r. h < n → Tame (at h (operandOf A B C) r)) (negationRow K ∷ rows K)
-  rows-tame K A B C l h =
-      Each-imp (λ r. adds (litKnown (λ p. known b (In h (operandOf A B C p))) (λ p. known b (Out h (operandOf A B C p)))) r ≡ true) (λ r. h < n → Tame (at h (operandOf A B C) r)) (negationRow K ∷ rows K)
+  rows-tame : (rs : List (Rule Literal)) → ((i o : Operand → Bool) → all (adds (litKnown i o)) rs ≡ true) → (A B C : ℕ) → (A < m) × (B < m) × (C < m) → (h : ℕ) → Each (λ r. h < n → Tame (at h (operandOf A B C) r)) rs
+  rows-tame rs add A B C l h =
+      Each-imp (λ r. adds (litKnown (λ p. known b (In h (operandOf A B C p))) (λ p. known b (Out h (operandOf A B C p)))) r ≡ true) (λ r. h < n → Tame (at h (operandOf A B C) r)) rs
       (λ r e q. at-tame h (operandOf A B C) q (picks A B C l) r e)
-      (each-all (adds (litKnown (λ p. known b (In h (operandOf A B C p))) (λ p. known b (Out h (operandOf A B C p))))) (negationRow K ∷ rows K)
-      (rows-add K (λ p. known b (In h (operandOf A B C p))) (λ p. known b (Out h (operandOf A B C p)))))
+      (each-all (adds (litKnown (λ p. known b (In h (operandOf A B C p))) (λ p. known b (Out h (operandOf A B C p))))) rs
+      (add (λ p. known b (In h (operandOf A B C p))) (λ p. known b (Out h (operandOf A B C p)))))
 
   force-adds : (rule : ℕ) (premises : List Fact) (f : Fact) → adds (known b) (propagation rule premises f) ≡ true
   force-adds rule premises f = go (all (known b) premises) (known b f)
@@ -113,7 +113,7 @@ module _ (n k m : ℕ) (b : Branch) (F : WellFormed n k b) where
     propagations-tame (nonmember t A) r = ((force-adds 2 [] (Out t A), ((r, tt), tt)), tt)
     propagations-tame (same t u) r = ((force-adds 3 [] (Same t u), ((r, tt), tt)), tt)
     propagations-tame (different t u) r = ((imp-i (applies (known b) (record { rule = 4; premises = Same t u ∷ []; blockers = []; alternatives = [] })) true (λ _. refl), tt), tt)
-    propagations-tame (relation K A B C) r = over-tame A B C (propagationRows K) (λ h. Each-left (λ r. h < n → Tame (at h (operandOf A B C) r)) (propagationRows K) (splitRows K) (rows-tame K A B C r h .1))
+    propagations-tame (relation K A B C) r = over-tame A B C (propagationRows K) (λ h. Each-left (λ r. h < n → Tame (at h (operandOf A B C) r)) (propagationRows K) (splitRows K) (rows-tame (rows K) (λ i o. rows-add i o K) A B C r h))
     propagations-tame (negation K A B C w) r = tt
     propagations-tame (exactly A es) r = lists-tame A es (r .0) (r .1)
     propagations-tame (interval A i j) r = lists-tame A (entries i j) (r .0) (r .1)
@@ -123,7 +123,7 @@ module _ (n k m : ℕ) (b : Branch) (F : WellFormed n k b) where
     splits-tame (nonmember t A) r = tt
     splits-tame (same t u) r = tt
     splits-tame (different t u) r = tt
-    splits-tame (relation K A B C) r = over-tame A B C (splitRows K) (λ h. Each-right (λ r. h < n → Tame (at h (operandOf A B C) r)) (propagationRows K) (splitRows K) (rows-tame K A B C r h .1))
-    splits-tame (negation K A B C w) r = (rows-tame K A B C (r .0) w .0 (r .1), tt)
+    splits-tame (relation K A B C) r = over-tame A B C (splitRows K) (λ h. Each-right (λ r. h < n → Tame (at h (operandOf A B C) r)) (propagationRows K) (splitRows K) (rows-tame (rows K) (λ i o. rows-add i o K) A B C r h))
+    splits-tame (negation K A B C w) r = (rows-tame (negationRow K ∷ []) (λ i o. negation-add i o K) A B C (r .0) w .0 (r .1), tt)
     splits-tame (exactly A es) r = chooses-tame A es (r .1)
     splits-tame (interval A i j) r = chooses-tame A (entries i j) (r .1)

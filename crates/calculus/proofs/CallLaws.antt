@@ -11,7 +11,7 @@ use lib.Seq.{take-at, drop-at, take-append-le, drop-append-le}
 use lib.Dec.{leb}
 use borrow.Author.Tests.{leb-true, leb-false, le-leb, lt-leb, eq-eqb, eqb-true}
 use Rattle.calculus.specs.Lists.{Each, Some, here, there, gather, first}
-use Rattle.calculus.specs.Relations.{applies}
+use Rattle.calculus.specs.Relations.{applies, Negation, unequal, denies}
 use mathlib.Core.Option.{Option, none, some}
 use Rattle.calculus.specs.Meaning.{Constraint}
 use Rattle.calculus.specs.Branch.{Branch, start, known}

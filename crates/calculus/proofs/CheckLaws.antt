@@ -9,7 +9,7 @@ use native.Mathlib.Omega.{arith}
 use lib.ListN.{length, getD}
 use lib.IntN.{ℤ, pos}
 use Rattle.calculus.specs.Lists.{all, Each}
-use Rattle.calculus.specs.Relations.{Relation, holdsAt}
+use Rattle.calculus.specs.Relations.{Relation, holdsAt, Negation, unequal, denies}
 use Rattle.calculus.specs.Meaning.{Constraint, member, nonmember, same, different, relation, negation, exactly, interval, entries, _∈_, Valuation, Relates, Holds}
 use Rattle.calculus.specs.Check.{eqZ, has, relates?, exactly?, holds?, lowest}
 use Rattle.calculus.specs.Problem.{Problem, Names, Accepted}
@@ -73,7 +73,7 @@ module _ (prob : Problem) (acc : Accepted prob) (v : Valuation) (own : (p : ℕ)
   holds-is (same t u) a = same? (v .num t) (v .num u)
   holds-is (different t u) a = flip (same? (v .num t) (v .num u))
   holds-is (relation k A B C) a = relates-is k (v .members A) (v .members B) (v .members C)
-  holds-is (negation k A B C w) a = flip (relates-is k (v .members A) (v .members B) (v .members C))
+  holds-is (negation k A B C w) a = flip (relates-is (denies k) (v .members A) (v .members B) (v .members C))
   holds-is (exactly A es) a = lists-is v A es
   holds-is (interval A i j) a = go (lists-is v A (entries i j))
     where

@@ -13,7 +13,7 @@ use lib.IntN.{ℤ, pos, negsuc}
 use lib.Signed.{_≤ℤ_, _<ℤ_, ltZ, leZ, ≤ℤ-refl, <ℤ-≤ℤ-trans, <ℤ-irrefl, clashℤ, mag}
 use borrow.Author.Tests.{eqb-true, eq-eqb, ne-eqb, lt-ltb, le-ltb}
 use Rattle.calculus.specs.Lists.{all, any, upFrom, Each}
-use Rattle.calculus.specs.Relations.{Relation, holdsAt}
+use Rattle.calculus.specs.Relations.{Relation, holdsAt, Negation, unequal, denies}
 use Rattle.calculus.specs.Meaning.{Constraint, member, nonmember, same, different, relation, negation, exactly, interval, entries, _∈_, Valuation, Relates, Holds}
 use Rattle.calculus.specs.Problem.{Problem, nameable, termCount, Assignment, valueOf, values, Satisfies, classValue, Rising, Names, uses, Tied, Numbered, Accepted}
 use Rattle.calculus.proofs.Bools.{and-l, and-r, and-i, clash, test, each-all, all-each, Each-imp, Each-zip}
@@ -178,7 +178,7 @@ module _ (prob : Problem) (acc : Accepted prob) where
     good-holds (same t u) a g = g
     good-holds (different t u) a g = g
     good-holds (relation k A B C) a g = g
-    good-holds (negation k A B C w) a g = λ h. clash (relates-test k (v .members A) (v .members B) (v .members C) h (v .num w)) g
+    good-holds (negation k A B C w) a g = λ h. clash (relates-test (denies k) (v .members A) (v .members B) (v .members C) h (v .num w)) g
     good-holds (exactly A es) a g = g
     good-holds (interval A i j) a g = λ x. (λ m. span-from i j (a .1) (a .2) (a .3) x (g x .0 m), λ m. g x .1 (span-to i j (a .1) (a .2) (a .3) x m))
 
@@ -218,7 +218,7 @@ module _ (prob : Problem) (acc : Accepted prob) where
     Broken f (same t u) = Unit {0}
     Broken f (different t u) = Unit {0}
     Broken f (relation k A B C) = Unit {0}
-    Broken f (negation k A B C w) = (nameable prob ≤ w) × (holdsAt k (has (g .members A) (f w)) (has (g .members B) (f w)) (has (g .members C) (f w)) ≡ false)
+    Broken f (negation k A B C w) = (nameable prob ≤ w) × (holdsAt (denies k) (has (g .members A) (f w)) (has (g .members B) (f w)) (has (g .members C) (f w)) ≡ false)
     Broken f (exactly A es) = Unit {0}
     Broken f (interval A i j) = Unit {0}
 
@@ -229,7 +229,7 @@ module _ (prob : Problem) (acc : Accepted prob) where
     broken-at e f w h (same t u) q b = tt
     broken-at e f w h (different t u) q b = tt
     broken-at e f w h (relation k A B C) q b = tt
-    broken-at e f w h (negation k A B C u) q b = (b .0, subst (λ (x : ℤ). holdsAt k (has (g .members A) x) (has (g .members B) x) (has (g .members C) x) ≡ false) (h u (omega arith)) (b .1))
+    broken-at e f w h (negation k A B C u) q b = (b .0, subst (λ (x : ℤ). holdsAt (denies k) (has (g .members A) x) (has (g .members B) x) (has (g .members C) x) ≡ false) (h u (omega arith)) (b .1))
     broken-at e f w h (exactly A es) q b = tt
     broken-at e f w h (interval A i j) q b = tt
 
@@ -245,10 +245,10 @@ module _ (prob : Problem) (acc : Accepted prob) where
     choose-at v f w m (different t u) q h = (f, tt, λ u _. refl)
     choose-at v f w m (relation k A B C) q h = (f, tt, λ u _. refl)
     choose-at v f w m (negation k A B C u) q h =
-        let z = breaks k (g .members A) (g .members B) (g .members C) h in
+        let z = breaks (denies k) (g .members A) (g .members B) (g .members C) h in
         let e : ℕ → ℤ = λ x. cond (eqb x w) (z .0) (f x) in
         let eu : z .0 ≡ e u = rw (eq-eqb u w q) in
-        (e, (omega arith, subst (λ (x : ℤ). holdsAt k (has (g .members A) x) (has (g .members B) x) (has (g .members C) x) ≡ false) eu (z .1)), λ x n. rw (ne-eqb x w (omega arith)))
+        (e, (omega arith, subst (λ (x : ℤ). holdsAt (denies k) (has (g .members A) x) (has (g .members B) x) (has (g .members C) x) ≡ false) eu (z .1)), λ x n. rw (ne-eqb x w (omega arith)))
     choose-at v f w m (exactly A es) q h = (f, tt, λ u _. refl)
     choose-at v f w m (interval A i j) q h = (f, tt, λ u _. refl)
 

@@ -11,12 +11,12 @@ use lib.ListN.{length, getD}
 use lib.Dec.{eqb}
 use borrow.Author.Tests.{eqb-true, eq-eqb}
 use Rattle.calculus.specs.Lists.{all, any, keep, first, upFrom, Each, gather, picked}
-use Rattle.calculus.specs.Relations.{Rule, applies, propagation, Relation, equal, union, disjoint, subset, intersection, without}
+use Rattle.calculus.specs.Relations.{Rule, applies, propagation, Relation, equal, union, disjoint, subset, intersection, Negation, unequal, denies}
 use Rattle.calculus.specs.Meaning.{Constraint, member, nonmember, same, different, relation, negation, exactly, interval, entries}
 use Rattle.calculus.specs.Branch.{Branch, rootAt, Fact, In, Out, Same, known, assertAll}
 use Rattle.calculus.specs.Search as Ru
 use Rattle.calculus.specs.Search.{Move, propagations, splits, rootsOf, Candidate, numbered, places, Next, solved, step, children, next, distinct}
-use Rattle.calculus.specs.Problem.{Problem, termCount, Twelve, Accepted}
+use Rattle.calculus.specs.Problem.{Problem, termCount}
 use Rattle.calculus.specs.Words.{KnownIn, KnownOut, OneClass, Root, Place, Before, Fires, rule1, rule2, rule3, rule4, rule5, rule6, rule7, rule8, rule9, rule10, rule11, rule12, rule13, rule14, rule15, rule16, rule17, rule18, rule19, rule20, rule19′, rule20′, nextOf, Enabled, Path}
 use Rattle.calculus.specs.Demands.{FirstPlace}
 use Rattle.calculus.proofs.Bools.{and-l, and-r, and-i, not-t, each-all, all-each, or-none-l, or-none-r}
@@ -525,57 +525,45 @@ module _ (n : ℕ) (b : Branch) (i : ℕ) where
   mv7 : ℕ → ℕ → ℕ → Move
   mv7 A B w = record { rule = 7; premises = []; blockers = (In w A ∷ Out w B ∷ []) ∷ (Out w A ∷ In w B ∷ []) ∷ []; alternatives = (In w A ∷ Out w B ∷ []) ∷ (Out w A ∷ In w B ∷ []) ∷ [] }
 
-  splits-unequal : (A B C w : ℕ) → Splits (negation equal A B C w)
+  splits-unequal : (A B C w : ℕ) → Splits (negation unequal A B C w)
   unfolding mv7
-  splits-unequal A B C w = rows-constraint n b i (negation equal A B C w) 1 (7 ∷ []) (splits (rootsOf n b) b (negation equal A B C w)) cover
-      (rows-more n b i (negation equal A B C w) 1 7 [] ((rootAt b w, mv7 A B w) ∷ []) [] tt
-      (single n b i (negation equal A B C w) 1 7 (rootAt b w) (mv7 A B w) refl (λ a. rule7 (λ k. app-to b (mv7 A B w) a .1 .0 (k .0, (k .1, tt))) (λ k. app-to b (mv7 A B w) a .1 .1 .0 (k .0, (k .1, tt)))) inv) (rows-nil n b i (negation equal A B C w) 1))
+  splits-unequal A B C w = rows-constraint n b i (negation unequal A B C w) 1 (7 ∷ []) (splits (rootsOf n b) b (negation unequal A B C w)) cover
+      (rows-more n b i (negation unequal A B C w) 1 7 [] ((rootAt b w, mv7 A B w) ∷ []) [] tt
+      (single n b i (negation unequal A B C w) 1 7 (rootAt b w) (mv7 A B w) refl (λ a. rule7 (λ k. app-to b (mv7 A B w) a .1 .0 (k .0, (k .1, tt))) (λ k. app-to b (mv7 A B w) a .1 .1 .0 (k .0, (k .1, tt)))) inv) (rows-nil n b i (negation unequal A B C w) 1))
     where
-      cover : (r s v : ℕ) (gs : List (List Fact)) → Fires n b (negation equal A B C w) 1 r s v gs → OneOf n b i (negation equal A B C w) r (7 ∷ [])
+      cover : (r s v : ℕ) (gs : List (List Fact)) → Fires n b (negation unequal A B C w) 1 r s v gs → OneOf n b i (negation unequal A B C w) r (7 ∷ [])
       cover r s v gs (rule7 x y) = inl refl
 
-      inv : (s v : ℕ) (gs : List (List Fact)) → Fires n b (negation equal A B C w) 1 7 s v gs → (s ≡ 0) × (applies (known b) (mv7 A B w) ≡ true)
+      inv : (s v : ℕ) (gs : List (List Fact)) → Fires n b (negation unequal A B C w) 1 7 s v gs → (s ≡ 0) × (applies (known b) (mv7 A B w) ≡ true)
       inv s v gs (rule7 x y) = (refl, app-from b (mv7 A B w) tt ((λ k. x (k .0, k .1 .0)), ((λ k. y (k .0, k .1 .0)), tt)))
 
-  of-propagations : (l : Constraint) → Twelve l → Forced l
-  of-propagations (member t A) x = propagations-isIn t A
-  of-propagations (nonmember t A) x = propagations-notIn t A
-  of-propagations (same t u) x = propagations-same t u
-  of-propagations (different t u) x = propagations-apart t u
-  of-propagations (relation equal A B C) x = propagations-equal A B C
-  of-propagations (relation union A B C) x = propagations-union A B C
-  of-propagations (relation disjoint A B C) x = propagations-disjoint A B C
-  of-propagations (relation subset A B C) x = propagations-subset A B C
-  of-propagations (relation intersection A B C) x = propagations-meet A B C
-  of-propagations (relation without A B C) x = absurd x
-  of-propagations (negation equal A B C w) x = nothing-propagations (negation equal A B C w) (λ r s w gs y. elim y [ ])
-  of-propagations (negation union A B C w) x = absurd x
-  of-propagations (negation disjoint A B C w) x = absurd x
-  of-propagations (negation subset A B C w) x = absurd x
-  of-propagations (negation intersection A B C w) x = absurd x
-  of-propagations (negation without A B C w) x = absurd x
-  of-propagations (exactly A es) x = propagations-exactly A es
-  of-propagations (interval A p q) x = propagations-span A p q
+  of-propagations : (l : Constraint) → Forced l
+  of-propagations (member t A) = propagations-isIn t A
+  of-propagations (nonmember t A) = propagations-notIn t A
+  of-propagations (same t u) = propagations-same t u
+  of-propagations (different t u) = propagations-apart t u
+  of-propagations (relation equal A B C) = propagations-equal A B C
+  of-propagations (relation union A B C) = propagations-union A B C
+  of-propagations (relation disjoint A B C) = propagations-disjoint A B C
+  of-propagations (relation subset A B C) = propagations-subset A B C
+  of-propagations (relation intersection A B C) = propagations-meet A B C
+  of-propagations (negation unequal A B C w) = nothing-propagations (negation unequal A B C w) (λ r s w gs y. elim y [ ])
+  of-propagations (exactly A es) = propagations-exactly A es
+  of-propagations (interval A p q) = propagations-span A p q
 
-  of-splits : (l : Constraint) → Twelve l → Splits l
-  of-splits (member t A) x = nothing-late (member t A) (λ r s w gs y. elim y [ ])
-  of-splits (nonmember t A) x = nothing-late (nonmember t A) (λ r s w gs y. elim y [ ])
-  of-splits (same t u) x = nothing-late (same t u) (λ r s w gs y. elim y [ ])
-  of-splits (different t u) x = nothing-late (different t u) (λ r s w gs y. elim y [ ])
-  of-splits (relation equal A B C) x = nothing-late (relation equal A B C) (λ r s w gs y. elim y [ ])
-  of-splits (relation union A B C) x = splits-union A B C
-  of-splits (relation disjoint A B C) x = nothing-late (relation disjoint A B C) (λ r s w gs y. elim y [ ])
-  of-splits (relation subset A B C) x = nothing-late (relation subset A B C) (λ r s w gs y. elim y [ ])
-  of-splits (relation intersection A B C) x = nothing-late (relation intersection A B C) (λ r s w gs y. elim y [ ])
-  of-splits (relation without A B C) x = absurd x
-  of-splits (negation equal A B C w) x = splits-unequal A B C w
-  of-splits (negation union A B C w) x = absurd x
-  of-splits (negation disjoint A B C w) x = absurd x
-  of-splits (negation subset A B C w) x = absurd x
-  of-splits (negation intersection A B C w) x = absurd x
-  of-splits (negation without A B C w) x = absurd x
-  of-splits (exactly A es) x = splits-exactly A es
-  of-splits (interval A p q) x = splits-span A p q
+  of-splits : (l : Constraint) → Splits l
+  of-splits (member t A) = nothing-late (member t A) (λ r s w gs y. elim y [ ])
+  of-splits (nonmember t A) = nothing-late (nonmember t A) (λ r s w gs y. elim y [ ])
+  of-splits (same t u) = nothing-late (same t u) (λ r s w gs y. elim y [ ])
+  of-splits (different t u) = nothing-late (different t u) (λ r s w gs y. elim y [ ])
+  of-splits (relation equal A B C) = nothing-late (relation equal A B C) (λ r s w gs y. elim y [ ])
+  of-splits (relation union A B C) = splits-union A B C
+  of-splits (relation disjoint A B C) = nothing-late (relation disjoint A B C) (λ r s w gs y. elim y [ ])
+  of-splits (relation subset A B C) = nothing-late (relation subset A B C) (λ r s w gs y. elim y [ ])
+  of-splits (relation intersection A B C) = nothing-late (relation intersection A B C) (λ r s w gs y. elim y [ ])
+  of-splits (negation unequal A B C w) = splits-unequal A B C w
+  of-splits (exactly A es) = splits-exactly A es
+  of-splits (interval A p q) = splits-span A p q
 
 -- ---- all constraints
 
@@ -589,13 +577,13 @@ module _ (n : ℕ) (b : Branch) where
   abbrev Sheet-of : ℕ → ℕ → List Constraint → Place → Type 0
   Sheet-of L i ls p = (p .phase ≡ L) × (i ≤ p .constraint) × (p .constraint < i + length ls) × Fires n b (getD ls (p .constraint - i) (member 0 0)) (p .phase) (p .rule) (p .position) (p .concerned) (p .alternatives)
 
-  constraints-on : (L : ℕ) (f : Constraint → List (ℕ × Move)) → ((i : ℕ) (l : Constraint) → Twelve l → Lists n b i l (f l) (Lines n b i l L)) → (ls : List Constraint) (i : ℕ) → Each Twelve ls → Enum appP MatchP (numbered f i ls) (Sheet-of L i ls)
-  constraints-on L f h [] i t = enum-nil appP MatchP (Sheet-of L i []) (λ p x. omega (arith, x .1, x .2))
-  constraints-on L f h (l ∷ ls) i t =
+  constraints-on : (L : ℕ) (f : Constraint → List (ℕ × Move)) → ((i : ℕ) (l : Constraint) → Lists n b i l (f l) (Lines n b i l L)) → (ls : List Constraint) (i : ℕ) → Enum appP MatchP (numbered f i ls) (Sheet-of L i ls)
+  constraints-on L f h [] i = enum-nil appP MatchP (Sheet-of L i []) (λ p x. omega (arith, x .1, x .2))
+  constraints-on L f h (l ∷ ls) i =
       enum-iff appP MatchP (numbered f i (l ∷ ls)) (λ p. Lines n b i l L p ⊎ Sheet-of L (suc i) ls p) (Sheet-of L i (l ∷ ls)) merge part
       (enum-app appP MatchP (map (λ (m : ℕ × Move). record { constraint = i; concerned = m .0; move = m .1 }) (f l)) (numbered f (suc i) ls) (Lines n b i l L) (Sheet-of L (suc i) ls)
-      (enum-map (app n b i l) (Match n b i l) appP MatchP (λ (m : ℕ × Move). record { constraint = i; concerned = m .0; move = m .1 }) (λ x. refl) (λ p x m. m) (f l) (Lines n b i l L) (h i l (t .0)))
-      (constraints-on L f h ls (suc i) (t .1))
+      (enum-map (app n b i l) (Match n b i l) appP MatchP (λ (m : ℕ × Move). record { constraint = i; concerned = m .0; move = m .1 }) (λ x. refl) (λ p x m. m) (f l) (Lines n b i l L) (h i l))
+      (constraints-on L f h ls (suc i))
       (λ p q x y. before-constraint p q (x .0 ∙ sym (y .0)) (omega (arith, x .1, y .1))))
     where
       merge : (p : Place) → Lines n b i l L p ⊎ Sheet-of L (suc i) ls p → Sheet-of L i (l ∷ ls) p
@@ -645,12 +633,12 @@ module _ (n : ℕ) (b : Branch) where
   abbrev Standing : List Constraint → Place → Type 0
   Standing ls p = (p .constraint < length ls) × Fires n b (getD ls (p .constraint) (member 0 0)) (p .phase) (p .rule) (p .position) (p .concerned) (p .alternatives)
 
-  all-places : (ls : List Constraint) → Each Twelve ls → Enum appP MatchP (places n ls b) (Standing ls)
-  all-places ls t =
+  all-places : (ls : List Constraint) → Enum appP MatchP (places n ls b) (Standing ls)
+  all-places ls =
       enum-iff appP MatchP (places n ls b) (λ p. Sheet-of 0 0 ls p ⊎ Sheet-of 1 0 ls p) (Standing ls) merge part
       (enum-app appP MatchP (numbered (propagations (rootsOf n b) b) 0 ls) (numbered (splits (rootsOf n b) b) 0 ls) (Sheet-of 0 0 ls) (Sheet-of 1 0 ls)
-      (constraints-on 0 (propagations (rootsOf n b) b) (of-propagations n b) ls 0 t)
-      (constraints-on 1 (splits (rootsOf n b) b) (of-splits n b) ls 0 t)
+      (constraints-on 0 (propagations (rootsOf n b) b) (of-propagations n b) ls 0)
+      (constraints-on 1 (splits (rootsOf n b) b) (of-splits n b) ls 0)
       (λ p q x y. before-late p q (omega (arith, x .0, y .0))))
     where
       same : (p : Place) → p .constraint - 0 ≡ p .constraint
@@ -677,7 +665,7 @@ pub first-place : FirstPlace
 first-place bytes prob q b = (nothing, found)
   where
     E : Enum (appP (termCount prob) b) (MatchP (termCount prob) b) (places (termCount prob) (prob .constraints) b) (Standing (termCount prob) b (prob .constraints))
-    E = all-places (termCount prob) b (prob .constraints) (read-accepted bytes prob q .twelve)
+    E = all-places (termCount prob) b (prob .constraints)
 
     nothing : nextOf prob b ≡ solved → (p : Place) → ¬ Enabled prob b p
     nothing e = at (first (appP (termCount prob) b) (places (termCount prob) (prob .constraints) b)) refl

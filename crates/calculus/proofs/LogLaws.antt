@@ -11,7 +11,7 @@ use lib.Dec.{eqb}
 use borrow.Author.Tests.{eqb-true, eq-eqb}
 use Rattle.calculus.specs.Lists.{bit, upFrom, first, Each, Some, here, there, gather}
 use Rattle.calculus.specs.Meaning.{Constraint, member, nonmember, same, different, relation, negation, exactly, interval, entries, Valuation}
-use Rattle.calculus.specs.Relations.{Rule, Literal, Operand}
+use Rattle.calculus.specs.Relations.{Rule, Literal, Operand, Negation, unequal, denies}
 use Rattle.calculus.specs.Branch.{Branch, start, rootAt, insideAt, outsideAt, Fact, In, Out, Same, known}
 use Rattle.calculus.specs.Search.{Move, over, propagations, splits, places, rootsOf, numbered, Candidate, Next, solved, step, next}
 use Rattle.calculus.specs.Log.{Event, formed, stepped, log, most, height, formsOf, forms}

@@ -9,7 +9,7 @@ use lib.Dec.{eqb}
 use lib.IntN.{ℤ}
 use borrow.Author.Tests.{eqb-true, eqb-false, eq-eqb}
 use Rattle.calculus.specs.Lists.{imp, all, any, keep, upFrom, Each, gather}
-use Rattle.calculus.specs.Relations.{Rule, applies, propagation, choice, Relation, holdsAt, Operand, Literal, propagationRows, splitRows, negationRow}
+use Rattle.calculus.specs.Relations.{Rule, applies, propagation, choice, Relation, holdsAt, Operand, Literal, propagationRows, splitRows, negationRow, Negation, unequal, denies}
 use Rattle.calculus.specs.Relations as R
 use Rattle.calculus.specs.Meaning.{Constraint, member, nonmember, same, different, relation, negation, exactly, interval, entries, _∈_, Valuation, Relates}
 use Rattle.calculus.specs.Branch.{Branch, rootAt, insideAt, outsideAt, Fact, In, Out, Same, known}
@@ -108,7 +108,7 @@ module _ (val : ℕ → ℤ) where
     relation-root : (K : Relation) (A B C : ℕ) → Each (λ (p : ℕ × Move). Idle (p .1)) (over (rootsOf n b) (operandOf A B C) (propagationRows K)) → Each (λ (p : ℕ × Move). Idle (p .1)) (over (rootsOf n b) (operandOf A B C) (splitRows K))
         → (h : ℕ) → IsHead n b h → holdsAt K (has (w .members A) (val h)) (has (w .members B) (val h)) (has (w .members C) (val h)) ≡ true
     relation-root K A B C f s h i =
-        let t = rows-full K (λ p. known b (In h (operandOf A B C p))) (λ p. known b (Out h (operandOf A B C p))) (clean-at h (operandOf A B C))
+        let t = rows-full (λ p. known b (In h (operandOf A B C p))) (λ p. known b (Out h (operandOf A B C p))) (clean-at h (operandOf A B C)) K
         (all-each (λ r. not (applies (litKnown (λ p. known b (In h (operandOf A B C p))) (λ p. known b (Out h (operandOf A B C p)))) r)) (rows K)
         (Each-app (λ r. not (applies (litKnown (λ p. known b (In h (operandOf A B C p))) (λ p. known b (Out h (operandOf A B C p)))) r) ≡ true) (propagationRows K) (splitRows K)
         (over-idle (operandOf A B C) (propagationRows K) f h i) (over-idle (operandOf A B C) (splitRows K) s h i))) in
@@ -171,6 +171,6 @@ module _ (val : ℕ → ℤ) where
     model-good m (relation K A B C) r f s = test-relates K (w .members A) (w .members B) (w .members C) (relation-all K A B C (relation-root K A B C f s))
     model-good m (negation K A B C u) r f s =
         rw (has-term u A (r .1), has-term u B (r .1), has-term u C (r .1))
-        (negation-full K (λ p. known b (In u (operandOf A B C p))) (λ p. known b (Out u (operandOf A B C p))) (clean-at u (operandOf A B C)) (at-idle u (operandOf A B C) (negationRow K) (s .0)))
+        (negation-full (λ p. known b (In u (operandOf A B C p))) (λ p. known b (Out u (operandOf A B C p))) (clean-at u (operandOf A B C)) K (at-idle u (operandOf A B C) (negationRow K) (s .0)))
     model-good m (exactly A es) r f s = listedForms A es (r .1) f s
     model-good m (interval A i j) r f s = listedForms A (entries i j) (r .1) f s

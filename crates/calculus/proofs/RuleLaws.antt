@@ -10,7 +10,7 @@ use lib.Dec.{eqb}
 use lib.IntN.{ℤ}
 use borrow.Author.Tests.{eqb-true, eqb-false, eq-eqb, ne-eqb}
 use Rattle.calculus.specs.Lists.{imp, all, any, keep, upFrom, Each, Some, here, there, gather, picked}
-use Rattle.calculus.specs.Relations.{Rule, applies, propagation, choice, sound, adds, mapRule, Relation, holdsAt, Operand, Literal, propagationRows, splitRows, negationRow}
+use Rattle.calculus.specs.Relations.{Rule, applies, propagation, choice, sound, adds, mapRule, Relation, holdsAt, Operand, Literal, propagationRows, splitRows, negationRow, Negation, unequal, denies}
 use Rattle.calculus.specs.Relations as R
 use Rattle.calculus.specs.Meaning.{Constraint, member, nonmember, same, different, relation, negation, exactly, interval, entries, _∈_, Valuation, Holds, Relates}
 use Rattle.calculus.specs.Branch.{Branch, rootAt, insideAt, outsideAt, Fact, In, Out, Same, known}
@@ -66,7 +66,7 @@ Good v (nonmember t A) = ¬ (v .num t ∈ v .members A)
 Good v (same t u) = v .num t ≡ v .num u
 Good v (different t u) = ¬ (v .num t ≡ v .num u)
 Good v (relation k A B C) = Relates k (v .members A) (v .members B) (v .members C)
-Good v (negation k A B C w) = holdsAt k (has (v .members A) (v .num w)) (has (v .members B) (v .num w)) (has (v .members C) (v .num w)) ≡ false
+Good v (negation k A B C w) = holdsAt (denies k) (has (v .members A) (v .num w)) (has (v .members B) (v .num w)) (has (v .members C) (v .num w)) ≡ false
 Good v (exactly A es) = Lists v A es
 Good v (interval A i j) = Lists v A (entries i j)
 

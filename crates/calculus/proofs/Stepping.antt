@@ -11,7 +11,7 @@ use lib.ListN.{length}
 use lib.Dec.{eqb}
 use borrow.Author.Tests.{eqb-true, eq-eqb}
 use Rattle.calculus.specs.Lists.{imp, all, any, keep, first, upFrom, Each, Some, here, there, gather, picked}
-use Rattle.calculus.specs.Relations.{Rule, applies, sound, adds}
+use Rattle.calculus.specs.Relations.{Rule, applies, sound, adds, Negation, unequal, denies}
 use Rattle.calculus.specs.Meaning.{Constraint, Valuation}
 use Rattle.calculus.specs.Branch.{Branch, rootAt, Fact, known, assert, assertAll}
 use Rattle.calculus.specs.Search.{Move, propagations, splits, rootsOf, Candidate, numbered, places, Next, solved, step, children, stepped, next}

@@ -8,7 +8,7 @@ use lib.Dec.{eqb}
 use lib.IntN.{ℤ, pos, negsuc}
 use borrow.Author.Tests.{eqb-true, eqb-false, eq-eqb, ne-eqb}
 use Rattle.calculus.specs.Lists.{imp, all, any}
-use Rattle.calculus.specs.Relations.{Relation, equal, union, disjoint, subset, intersection, without, holdsAt}
+use Rattle.calculus.specs.Relations.{Relation, equal, union, disjoint, subset, intersection, holdsAt, Negation, unequal, denies}
 use Rattle.calculus.specs.Meaning.{_∈_, Valuation, PointMeans, Relates}
 pub use Rattle.calculus.specs.Check.{eqZ, has}
 use Rattle.calculus.specs.Branch.{Branch, rootAt, Fact, In, Out, Same, known}
@@ -84,12 +84,6 @@ point intersection (is p) (isnt q) (is r) = isnt (λ h. q (h .0 r .1))
 point intersection (is p) (isnt q) (isnt r) = is (λ x. absurd (r x), λ x. absurd (q (x .1)))
 point intersection (isnt p) q (is r) = isnt (λ h. p (h .0 r .0))
 point intersection (isnt p) q (isnt r) = is (λ x. absurd (r x), λ x. absurd (p (x .0)))
-point without (is p) (is q) (is r) = isnt (λ h. h .0 r .1 q)
-point without (is p) (is q) (isnt r) = is (λ x. absurd (r x), λ x. absurd (x .1 q))
-point without (is p) (isnt q) (is r) = is (λ _. (p, q), λ _. r)
-point without (is p) (isnt q) (isnt r) = isnt (λ h. r (h .1 (p, q)))
-point without (isnt p) q (is r) = isnt (λ h. p (h .0 r .0))
-point without (isnt p) q (isnt r) = is (λ x. absurd (r x), λ x. absurd (p (x .0)))
 
 pub yes-of : {P : Type 0} {a : Bool} → Reflects P a → a ≡ true → P
 yes-of (is p) e = p

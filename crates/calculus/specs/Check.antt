@@ -7,7 +7,7 @@ use Prim.Native.Nat.{ℕ, zero, suc}
 use lib.Dec.{eqb}
 use lib.IntN.{ℤ, pos, negsuc}
 use Rattle.calculus.specs.Lists.{all, any}
-use Rattle.calculus.specs.Relations.{Relation, holdsAt}
+use Rattle.calculus.specs.Relations.{Relation, holdsAt, Negation, unequal, denies}
 use Rattle.calculus.specs.Meaning.{Constraint, member, nonmember, same, different, relation, negation, exactly, interval, entries, Valuation}
 
 abbrev pub eqZ : ℤ → ℤ → Bool
@@ -35,7 +35,7 @@ holds? v (nonmember t A) = not (has (v .members A) (v .num t))
 holds? v (same t u) = eqZ (v .num t) (v .num u)
 holds? v (different t u) = not (eqZ (v .num t) (v .num u))
 holds? v (relation k A B C) = relates? k (v .members A) (v .members B) (v .members C)
-holds? v (negation k A B C w) = not (relates? k (v .members A) (v .members B) (v .members C))
+holds? v (negation k A B C w) = not (relates? (denies k) (v .members A) (v .members B) (v .members C))
 holds? v (exactly A es) = exactly? v A es
 holds? v (interval A i j) = exactly? v A (entries i j)
 

@@ -8,7 +8,7 @@ use lib.Dec.{ltb}
 use lib.IntN.{ℤ, pos, negsuc}
 use lib.Signed.{_≤ℤ_, _<ℤ_}
 use Rattle.calculus.specs.Lists.{Each, keep}
-use Rattle.calculus.specs.Relations.{Relation, equal, union, disjoint, subset, intersection, without}
+use Rattle.calculus.specs.Relations.{Relation, equal, union, disjoint, subset, intersection, Negation, unequal, denies}
 use Rattle.calculus.specs.Meaning.{Constraint, member, nonmember, same, different, relation, negation, exactly, interval, _∈_, Valuation, Holds}
 use Rattle.calculus.specs.Branch.{Branch, rootAt, insideAt, outsideAt}
 use Rattle.calculus.specs.Search.{rootsOf}
@@ -115,35 +115,7 @@ abbrev pub Numbered : ℕ → ℕ → List Constraint → Type 0
 Numbered w last [] = w ≡ last
 Numbered w last (l ∷ ls) = Tied w l × Numbered (w + uses l) last ls
 
--- a constraint of one of the twelve kinds
-abbrev pub Positive : Relation → Type 0
-Positive equal = Unit {0}
-Positive union = Unit {0}
-Positive disjoint = Unit {0}
-Positive subset = Unit {0}
-Positive intersection = Unit {0}
-Positive without = ⊥
-
-abbrev pub Negative : Relation → Type 0
-Negative equal = Unit {0}
-Negative union = ⊥
-Negative disjoint = ⊥
-Negative subset = ⊥
-Negative intersection = ⊥
-Negative without = ⊥
-
-abbrev pub Twelve : Constraint → Type 0
-Twelve (member t A) = Unit {0}
-Twelve (nonmember t A) = Unit {0}
-Twelve (same t u) = Unit {0}
-Twelve (different t u) = Unit {0}
-Twelve (relation k A B C) = Positive k
-Twelve (negation k A B C w) = Negative k
-Twelve (exactly A es) = Unit {0}
-Twelve (interval A i j) = Unit {0}
-
 pub record Accepted (prob : Problem) : Type 0 where
-  pub twelve : Each Twelve (prob .constraints)
   pub rising : Rising (prob .constants)
   pub small : (p : ℕ) → p < length (prob .constants) → getD (prob .constants) p (pos 0) ≤ℤ pos 32000
   pub variables : Each (Names prob) (prob .constraints)

@@ -6,7 +6,7 @@ use lib.ListN.{length, getD, take, drop}
 use lib.Dec.{leb, ltb, eqb}
 use lib.IntN.{ℤ, pos, negsuc}
 use Rattle.calculus.specs.Lists.{all}
-use Rattle.calculus.specs.Relations.{Relation, equal, union, disjoint, subset, intersection, without}
+use Rattle.calculus.specs.Relations.{Relation, equal, union, disjoint, subset, intersection, Negation, unequal, denies}
 use Rattle.calculus.specs.Meaning.{Constraint, member, nonmember, same, different, relation, negation, exactly, interval}
 use Rattle.calculus.specs.Questions.{ascending, gapless, inRange}
 use Rattle.calculus.specs.Problem.{Problem, uses}
@@ -93,7 +93,7 @@ module _ (cs : List ℤ) (N S : ℕ) where
   abbrev pub kinds : ℕ → List Parser
   kinds w = nothing 7
       ∷ two N S member ∷ two N S nonmember ∷ two N N same ∷ two N N different
-      ∷ two S S (λ A B. relation equal A B A) ∷ two S S (λ A B. negation equal A B A w) ∷ three (relation union) ∷ two S S (λ A B. relation disjoint A B A)
+      ∷ two S S (λ A B. relation equal A B A) ∷ two S S (λ A B. negation unequal A B A w) ∷ three (relation union) ∷ two S S (λ A B. relation disjoint A B A)
       ∷ two S S (λ A B. relation subset A B A) ∷ three (relation intersection) ∷ listConstraint ∷ intervalConstraint ∷ []
 
   abbrev pub constraint : ℕ → Parser

@@ -37,7 +37,7 @@ module _ {F G : Type 0} where
 
 -- The relations between sets that hold element by element
 pub data Relation : Type 0 where
-  equal union disjoint subset intersection without : Relation
+  equal union disjoint subset intersection : Relation
 
 -- of one element: whether it is in A, B, C
 abbrev pub holdsAt : Relation → Bool → Bool → Bool → Bool
@@ -46,7 +46,6 @@ holdsAt union a b c = imp c (a || b) && imp (a || b) c
 holdsAt disjoint a b c = not (a && b)
 holdsAt subset a b c = imp a b
 holdsAt intersection a b c = imp c (a && b) && imp (a && b) c
-holdsAt without a b c = imp c (a && not b) && imp (a && not b) c
 
 -- an operand of a constraint
 pub data Operand : Type 0 where
@@ -64,9 +63,6 @@ propagationRows union =
 propagationRows disjoint = propagation 13 (In A ∷ []) (Out B) ∷ propagation 14 (In B ∷ []) (Out A) ∷ []
 propagationRows subset = propagation 15 (In A ∷ []) (In B) ∷ []
 propagationRows intersection = propagation 16 (In C ∷ []) (In A) ∷ propagation 17 (In C ∷ []) (In B) ∷ propagation 18 (In A ∷ In B ∷ []) (In C) ∷ []
-propagationRows without =
-    propagation 21 (In C ∷ []) (In A) ∷ propagation 22 (In C ∷ []) (Out B)
-    ∷ propagation 23 (In A ∷ Out B ∷ []) (In C) ∷ propagation 24 (In A ∷ Out C ∷ []) (In B) ∷ []
 
 -- p in, q and r undecided
 abbrev pub open2 : Operand → Operand → List (List Literal)
@@ -78,13 +74,14 @@ splitRows union = record { rule = 12; premises = In C ∷ []; blockers = open2 A
 splitRows disjoint = []
 splitRows subset = []
 splitRows intersection = []
-splitRows without = record { rule = 25; premises = In A ∷ []; blockers = open2 B C; alternatives = (In B ∷ []) ∷ (Out B ∷ In C ∷ []) ∷ [] } ∷ []
 
--- the split of a constraint that says that the relation fails, at its witness. (There is no constraint that says so of `without`: its row closes nothing and is not used)
-abbrev pub negationRow : Relation → Rule Literal
-negationRow equal = choice 7 ((In A ∷ Out B ∷ []) ∷ (Out A ∷ In B ∷ []) ∷ [])
-negationRow union = choice 26 ((In C ∷ Out A ∷ Out B ∷ []) ∷ (In A ∷ Out C ∷ []) ∷ (In B ∷ Out C ∷ []) ∷ [])
-negationRow disjoint = choice 27 ((In A ∷ In B ∷ []) ∷ [])
-negationRow subset = choice 28 ((In A ∷ Out B ∷ []) ∷ [])
-negationRow intersection = choice 29 ((In C ∷ Out A ∷ []) ∷ (In C ∷ Out B ∷ []) ∷ (In A ∷ In B ∷ Out C ∷ []) ∷ [])
-negationRow without = choice 0 ((In C ∷ Out A ∷ []) ∷ (In C ∷ In B ∷ []) ∷ (In A ∷ Out B ∷ Out C ∷ []) ∷ [])
+-- The relations that a constraint can deny
+pub data Negation : Type 0 where
+  unequal : Negation
+
+abbrev pub denies : Negation → Relation
+denies unequal = equal
+
+-- the split of a constraint that denies a relation, at its witness
+abbrev pub negationRow : Negation → Rule Literal
+negationRow unequal = choice 7 ((In A ∷ Out B ∷ []) ∷ (Out A ∷ In B ∷ []) ∷ [])

@@ -6,7 +6,7 @@ use Prim.Native.Nat.{ℕ, zero, suc, _+_, _-_, _^_}
 use lib.ListN.{length, getD}
 use lib.Dec.{leb, ltb, eqb}
 use Rattle.calculus.specs.Lists.{upFrom, all, any, keep, first, gather, picked}
-use Rattle.calculus.specs.Relations.{Rule, applies, propagation, choice, mapRule, Relation, Operand, Literal, propagationRows, splitRows, negationRow}
+use Rattle.calculus.specs.Relations.{Rule, applies, propagation, choice, mapRule, Relation, Operand, Literal, propagationRows, splitRows, negationRow, Negation, unequal, denies}
 use Rattle.calculus.specs.Relations as R
 use Rattle.calculus.specs.Meaning.{Constraint, member, nonmember, same, different, relation, negation, exactly, interval, entries}
 use Rattle.calculus.specs.Branch.{Branch, rootAt, Fact, In, Out, Same, known, assertAll}

@@ -9,7 +9,7 @@ use lib.ListN.{length, getD}
 use lib.IntN.{ℤ, pos, negsuc}
 use lib.Signed.{_≤ℤ_}
 use Rattle.calculus.specs.Lists.{Each, Some, gather, bit}
-use Rattle.calculus.specs.Relations.{Relation, equal, union, disjoint, subset, intersection, without}
+use Rattle.calculus.specs.Relations.{Relation, equal, union, disjoint, subset, intersection, Negation, unequal, denies}
 use Rattle.calculus.specs.Meaning.{Constraint, member, nonmember, same, different, relation, negation, exactly, interval, entries}
 use Rattle.calculus.specs.Branch.{Branch, start, rootAt, Fact, In, Out, Same, known, assert}
 use Rattle.calculus.specs.Search.{distinct, Next, solved, step, next}
@@ -29,7 +29,7 @@ pub data WrittenConstraint : Constraint → List ℕ → Type 0 where
   kind3 : {t u : ℕ} → WrittenConstraint (same t u) (3 ∷ t ∷ u ∷ [])
   kind4 : {t u : ℕ} → WrittenConstraint (different t u) (4 ∷ t ∷ u ∷ [])
   kind5 : {A B : ℕ} → WrittenConstraint (relation equal A B A) (5 ∷ A ∷ B ∷ [])
-  kind6 : {A B w : ℕ} → WrittenConstraint (negation equal A B A w) (6 ∷ A ∷ B ∷ [])
+  kind6 : {A B w : ℕ} → WrittenConstraint (negation unequal A B A w) (6 ∷ A ∷ B ∷ [])
   kind7 : {A B C : ℕ} → WrittenConstraint (relation union A B C) (7 ∷ A ∷ B ∷ C ∷ [])
   kind8 : {A B : ℕ} → WrittenConstraint (relation disjoint A B A) (8 ∷ A ∷ B ∷ [])
   kind9 : {A B : ℕ} → WrittenConstraint (relation subset A B A) (9 ∷ A ∷ B ∷ [])
@@ -141,7 +141,7 @@ module _ (n : ℕ) (b : Branch) where
     rule18 : {A B C h : ℕ} → Root h → KnownIn b h A → KnownIn b h B → ¬ KnownIn b h C → Fires (relation intersection A B C) 0 18 h h ((In h C ∷ []) ∷ [])
     rule19 : {A : ℕ} {es : List ℕ} (p : ℕ) → p < length es → ¬ KnownIn b (getD es p 0) A → Fires (exactly A es) 0 19 p (rootAt b (getD es p 0)) ((In (getD es p 0) A ∷ []) ∷ [])
     rule19′ : {A i j : ℕ} (p : ℕ) → p < length (entries i j) → ¬ KnownIn b (getD (entries i j) p 0) A → Fires (interval A i j) 0 19 p (rootAt b (getD (entries i j) p 0)) ((In (getD (entries i j) p 0) A ∷ []) ∷ [])
-    rule7 : {A B C w : ℕ} → ¬ (KnownIn b w A × KnownOut b w B) → ¬ (KnownOut b w A × KnownIn b w B) → Fires (negation equal A B C w) 1 7 0 (rootAt b w) ((In w A ∷ Out w B ∷ []) ∷ (Out w A ∷ In w B ∷ []) ∷ [])
+    rule7 : {A B C w : ℕ} → ¬ (KnownIn b w A × KnownOut b w B) → ¬ (KnownOut b w A × KnownIn b w B) → Fires (negation unequal A B C w) 1 7 0 (rootAt b w) ((In w A ∷ Out w B ∷ []) ∷ (Out w A ∷ In w B ∷ []) ∷ [])
     rule12 : {A B C h : ℕ} → Root h → KnownIn b h C → ¬ KnownIn b h A → ¬ KnownOut b h A → ¬ KnownIn b h B → ¬ KnownOut b h B → Fires (relation union A B C) 1 12 h h ((In h A ∷ []) ∷ (Out h A ∷ In h B ∷ []) ∷ [])
     rule20 : {A h : ℕ} {es : List ℕ} → Root h → KnownIn b h A → ((p : ℕ) → p < length es → ¬ OneClass b h (getD es p 0)) → Fires (exactly A es) 1 20 h h (map (λ e. Same h e ∷ []) (distinct (map (rootAt b) es)))
     rule20′ : {A h i j : ℕ} → Root h → KnownIn b h A → ((p : ℕ) → p < length (entries i j) → ¬ OneClass b h (getD (entries i j) p 0)) → Fires (interval A i j) 1 20 h h (map (λ e. Same h e ∷ []) (distinct (map (rootAt b) (entries i j))))
