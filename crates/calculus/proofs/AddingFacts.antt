@@ -35,7 +35,7 @@ any-none : {X : Type 0} (p : X → Bool) (l : List X) → any p l ≡ false → 
 any-none p [] e = tt
 any-none p (x ∷ xs) e = (or-none-l (p x) (any p xs) e, any-none p xs (or-none-r (p x) (any p xs) e))
 
-module _ (n k m : ℕ) (b : Branch) (F : WellFormed n k b) where
+module _ (n : ℕ) (k : List ℕ) (m : ℕ) (b : Branch) (F : WellFormed n k b) where
   abbrev pub Tame : Move → Type 0
   Tame mv = (adds (known b) mv ≡ true) × Each (λ g. Each (Ranged n m) g) (mv .alternatives)
 
@@ -62,6 +62,11 @@ module _ (n k m : ℕ) (b : Branch) (F : WellFormed n k b) where
       (λ r e q. at-tame h (operandOf A B C) q (picks A B C l) r e)
       (each-all (adds (litKnown (λ p. known b (In h (operandOf A B C p))) (λ p. known b (Out h (operandOf A B C p))))) rs
       (add (λ p. known b (In h (operandOf A B C p))) (λ p. known b (Out h (operandOf A B C p)))))
+
+  -- a split whose children it applies without
+  choice-adds : (rule : ℕ) (gs : List (List Fact)) → adds (known b) (choice rule gs) ≡ true
+  choice-adds rule gs = imp-i (not (any (all (known b)) gs)) (all (λ (g : List Fact). not (all (known b) g)) gs)
+      (λ e. all-each (λ (g : List Fact). not (all (known b) g)) gs (Each-imp (λ g. all (known b) g ≡ false) (λ g. not (all (known b) g) ≡ true) gs (λ g q. rw q) (any-none (all (known b)) gs (not-t (any (all (known b)) gs) e))))
 
   force-adds : (rule : ℕ) (premises : List Fact) (f : Fact) → adds (known b) (propagation rule premises f) ≡ true
   force-adds rule premises f = go (all (known b) premises) (known b f)

@@ -10,16 +10,18 @@ use native.Mathlib.Decide.{ℕ-discrete}
 use lib.ListN.{length}
 use lib.Dec.{eqb, ltb}
 use borrow.Author.Tests.{eqb-true, eq-eqb, ltb-true, lt-ltb}
-use Rattle.calculus.specs.Branch.{Branch, start, rootAt, insideAt, outsideAt, Fact, In, Out, Same, known, addInside, addOutside, merge, torn, conflictIf, mergeRoots, assert}
+use Rattle.calculus.specs.Branch.{Branch, start, rootAt, insideAt, outsideAt, Fact, In, Out, Same, known, addInside, addOutside, merge, torn, owns, conflictIf, mergeRoots, assert}
 use Rattle.calculus.specs.Words.{KnownIn, KnownOut, OneClass, Then, Conflicts, Of, Reached, begun, asserted}
 use Rattle.calculus.specs.Demands.{Asserts}
-use Rattle.calculus.proofs.Bools.{and-l, and-r, and-i, or-cases, or-l, or-r, test}
+use Rattle.calculus.proofs.Bools.{and-l, and-r, and-i, or-cases, or-l, or-r, or-none-l, or-none-r, test}
+use Rattle.calculus.proofs.Truth.{is-some, some-is}
+use Rattle.calculus.specs.Lists.{Some}
 use Rattle.calculus.proofs.Walk.{moved, moved-hi, moved-other}
-use Rattle.calculus.proofs.Asserting.{WellFormed, Ranged, inside-addInside, outside-addInside, root-addInside, inside-addOutside, outside-addOutside, root-addOutside, inside-merge, outside-merge, below, still, conflictIf-some, conflictIf-none, Merges, already, upper, lower, merges, torn-some, torn-none, root-in, moves, in-ins, in-outs}
+use Rattle.calculus.proofs.Asserting.{WellFormed, Ranged, owned, owning, inside-addInside, outside-addInside, root-addInside, inside-addOutside, outside-addOutside, root-addOutside, inside-merge, outside-merge, below, still, conflictIf-some, conflictIf-none, Merges, already, upper, lower, merges, torn-some, torn-none, root-in, moves, in-ins, in-outs}
 use Rattle.calculus.proofs.Keeping.{assert-fit}
 use Rattle.calculus.proofs.Start.{start-fit}
 
-reached-fit : (n k m : ℕ) (b : Branch) → Reached n k m b → WellFormed n k b
+reached-fit : (n : ℕ) (k : List ℕ) (m : ℕ) (b : Branch) → Reached n k m b → WellFormed n k b
 reached-fit n k m b begun = start-fit n k
 reached-fit n k m b (asserted {b = a} f r o e) = assert-fit n k a (reached-fit n k m a r) m f (go f o) b e
   where
@@ -28,7 +30,7 @@ reached-fit n k m b (asserted {b = a} f r o e) = assert-fit n k a (reached-fit n
     go (Out t A) q = q
     go (Same t u) q = q
 
-module _ (n k m : ℕ) (b : Branch) (F : WellFormed n k b) where
+module _ (n : ℕ) (k : List ℕ) (m : ℕ) (b : Branch) (F : WellFormed n k b) where
   one : (x y : ℕ) → rootAt b x ≡ rootAt b y → OneClass b x y
   one x y e = eq-eqb (rootAt b x) (rootAt b y) e
 
@@ -44,8 +46,8 @@ module _ (n k m : ℕ) (b : Branch) (F : WellFormed n k b) where
   not-both : (x A : ℕ) → KnownIn b x A → KnownOut b x A → ⊥
   not-both x A p q = false≢true (sym (F .clean (rootAt b x) A) ∙ and-i p q)
 
-  alone : (i j : ℕ) → i < j → j < k → OneClass b i j → ⊥
-  alone i j l q o = let z : i ≡ j = sym (F .fixed i (omega arith)) ∙ heads i j o ∙ F .fixed j q in omega arith
+  alone : (i j : ℕ) → Some (λ x. x ≡ i) k → Some (λ x. x ≡ j) k → i ≢ j → OneClass b i j → ⊥
+  alone i j p q d o = d (F .lone i j (some-is k i p) (some-is k j q) (heads i j o))
 
   -- in, out
   module _ (t A : ℕ) (lt : t < n) where
@@ -91,7 +93,7 @@ module _ (n k m : ℕ) (b : Branch) (F : WellFormed n k b) where
         from : Conflicts b n k (In t A) → assert k b (In t A) ≡ none
         from (inl (u, B, l, inl p, q)) = absurd (not-both u B p q)
         from (inl (u, B, l, inr (o, z), q)) = let w : known b (Out t A) ≡ true = rw z (out-of u t B (one u t (sym (heads t u o))) q) in rw w
-        from (inr (i, j, p, q, o)) = absurd (alone i j p q o)
+        from (inr (i, j, p, q, d, o)) = absurd (alone i j p q d o)
 
     out-none : (assert k b (Out t A) ≡ none) ↔ Conflicts b n k (Out t A)
     out-none = ((λ e. inl (t, A, lt, conflictIf-none (known b (In t A)) (addOutside b (rootAt b t) A) e, inr (one t t refl, refl))), from)
@@ -99,7 +101,7 @@ module _ (n k m : ℕ) (b : Branch) (F : WellFormed n k b) where
         from : Conflicts b n k (Out t A) → assert k b (Out t A) ≡ none
         from (inl (u, B, l, p, inl q)) = absurd (not-both u B p q)
         from (inl (u, B, l, p, inr (o, z))) = let w : known b (In t A) ≡ true = rw z (in-of u t B (one u t (sym (heads t u o))) p) in rw w
-        from (inr (i, j, p, q, o)) = absurd (alone i j p q o)
+        from (inr (i, j, p, q, d, o)) = absurd (alone i j p q d o)
 
   -- merging: s's root is the lower
   module _ (s t : ℕ) (ls : s < n) (lt : t < n) (low : rootAt b s < rootAt b t) where
@@ -170,24 +172,30 @@ module _ (n k m : ℕ) (b : Branch) (F : WellFormed n k b) where
       (λ p. eq-eqb (rootAt j u) (rootAt j x) (eq-from u x (ℕ-discrete (rootAt b u) (rootAt b t)) p)),
     )
 
+    abbrev both? : Bool
+    both? = owns k b (rootAt b s) && owns k b (rootAt b t)
+
     mergeRoots-to : mergeRoots k b (rootAt b s) (rootAt b t) ≡ none → Conflicts b n k (Same s t)
-    mergeRoots-to e = go (or-cases (ltb (rootAt b t) k) (torn j (rootAt b s)) (conflictIf-none (ltb (rootAt b t) k || torn j (rootAt b s)) j e))
+    mergeRoots-to e = go (or-cases both? (torn j (rootAt b s)) (conflictIf-none (both? || torn j (rootAt b s)) j e))
       where
-        go : (ltb (rootAt b t) k ≡ true) ⊎ (torn j (rootAt b s) ≡ true) → Conflicts b n k (Same s t)
-        go (inl q) = inr (rootAt b s, rootAt b t, low, ltb-true (rootAt b t) k q, inr (inl (one (rootAt b s) s (still n k b F s)), inr (one (rootAt b t) t (still n k b F t))))
+        go : (both? ≡ true) ⊎ (torn j (rootAt b s) ≡ true) → Conflicts b n k (Same s t)
+        go (inl q) =
+            let x = owned b k (rootAt b s) (and-l (owns k b (rootAt b s)) (owns k b (rootAt b t)) q) in
+            let y = owned b k (rootAt b t) (and-r (owns k b (rootAt b s)) (owns k b (rootAt b t)) q) in
+            inr (x .0, y .0, is-some k (x .0) (x .1), is-some k (y .0) (y .1), (λ d. let z : rootAt b s ≡ rootAt b t = sym (x .2) ∙ ap (rootAt b) d ∙ y .2 in omega arith), inr (inl (one (x .0) s (x .2)), inr (one (y .0) t (y .2))))
         go (inr q) =
             let z = torn-some j (rootAt b s) q in
             let h : rootAt j s ≡ rootAt b s = either s (inl (one s s refl)) in
             inl (s, z .0, ls, merge-is (In s (z .0)) .0 (ap (λ (x : ℕ). insideAt j x (z .0)) h ∙ z .1), merge-is (Out s (z .0)) .0 (ap (λ (x : ℕ). outsideAt j x (z .0)) h ∙ z .2))
 
     mergeRoots-from : Conflicts b n k (Same s t) → mergeRoots k b (rootAt b s) (rootAt b t) ≡ none
-    mergeRoots-from c = go (test (ltb (rootAt b t) k || torn j (rootAt b s)))
+    mergeRoots-from c = go (test (both? || torn j (rootAt b s)))
       where
-        different : (ltb (rootAt b t) k || torn j (rootAt b s)) ≡ false → Conflicts b n k (Same s t) → ⊥
+        different : (both? || torn j (rootAt b s)) ≡ false → Conflicts b n k (Same s t) → ⊥
         different q (inl (u, B, l, p, r)) = bad (known-in (merge-is (In u B) .1 p)) (known-out (merge-is (Out u B) .1 r))
           where
             quiet : torn j (rootAt b s) ≡ false
-            quiet = Rattle.calculus.proofs.Bools.or-none-r (ltb (rootAt b t) k) (torn j (rootAt b s)) q
+            quiet = or-none-r both? (torn j (rootAt b s)) q
 
             known-in : known j (In u B) ≡ true → insideAt j (rootAt j u) B ≡ true
             known-in x = x
@@ -206,20 +214,19 @@ module _ (n k m : ℕ) (b : Branch) (F : WellFormed n k b) where
                     elsewhere (inl x) (inl y) = false≢true (sym (F .clean (rootAt j u) B) ∙ and-i x y)
                     elsewhere (inl x) (inr y) = e (eqb-true (rootAt j u) (rootAt b s) (and-l (eqb (rootAt j u) (rootAt b s)) (outsideAt b (rootAt b t) B) y))
                     elsewhere (inr x) y = e (eqb-true (rootAt j u) (rootAt b s) (and-l (eqb (rootAt j u) (rootAt b s)) (insideAt b (rootAt b t) B) x))
-        different q (inr (i, i′, p, r, inl o)) = alone i i′ p r o
-        different q (inr (i, i′, p, r, inr (x, y))) =
-            let nk : ltb (rootAt b t) k ≡ false = Rattle.calculus.proofs.Bools.or-none-l (ltb (rootAt b t) k) (torn j (rootAt b s)) q in
-            concerned x y nk
+        different q (inr (i, i′, p, r, d, inl o)) = alone i i′ p r d o
+        different q (inr (i, i′, p, r, d, inr (x, y))) = classes x y (or-none-l both? (torn j (rootAt b s)) q)
           where
-            lone : (z : ℕ) → z < k → rootAt b z ≡ z
-            lone z l = F .fixed z l
+            owns-of : (z u : ℕ) → Some (λ x. x ≡ z) k → OneClass b z u → owns k b (rootAt b u) ≡ true
+            owns-of z u c o = owning b k (rootAt b u) z (some-is k z c) (heads z u o)
 
-            concerned : OneClass b i s ⊎ OneClass b i t → OneClass b i′ s ⊎ OneClass b i′ t → ltb (rootAt b t) k ≡ false → ⊥
-            concerned (inl a) (inl c) nk = let e : i ≡ i′ = sym (lone i (omega arith)) ∙ heads i s a ∙ sym (heads i′ s c) ∙ lone i′ r in omega arith
-            concerned (inl a) (inr c) nk = let e : i′ ≡ rootAt b t = sym (lone i′ r) ∙ heads i′ t c in false≢true (sym nk ∙ lt-ltb (rootAt b t) k (omega arith))
-            concerned (inr a) c nk = let e : i ≡ rootAt b t = sym (lone i (omega arith)) ∙ heads i t a in false≢true (sym nk ∙ lt-ltb (rootAt b t) k (omega arith))
+            classes : OneClass b i s ⊎ OneClass b i t → OneClass b i′ s ⊎ OneClass b i′ t → both? ≡ false → ⊥
+            classes (inl a) (inl c) nk = alone i i′ p r d (one i i′ (heads i s a ∙ sym (heads i′ s c)))
+            classes (inl a) (inr c) nk = false≢true (sym nk ∙ and-i (owns-of i s p a) (owns-of i′ t r c))
+            classes (inr a) (inl c) nk = false≢true (sym nk ∙ and-i (owns-of i′ s r c) (owns-of i t p a))
+            classes (inr a) (inr c) nk = alone i i′ p r d (one i i′ (heads i t a ∙ sym (heads i′ t c)))
 
-        go : ((ltb (rootAt b t) k || torn j (rootAt b s)) ≡ true) ⊎ ((ltb (rootAt b t) k || torn j (rootAt b s)) ≡ false) → mergeRoots k b (rootAt b s) (rootAt b t) ≡ none
+        go : ((both? || torn j (rootAt b s)) ≡ true) ⊎ ((both? || torn j (rootAt b s)) ≡ false) → mergeRoots k b (rootAt b s) (rootAt b t) ≡ none
         go (inl q) = rw q
         go (inr q) = absurd (different q c)
 
@@ -246,7 +253,7 @@ module _ (n k m : ℕ) (b : Branch) (F : WellFormed n k b) where
 
   swap-bad : (s t : ℕ) → Conflicts b n k (Same t s) → Conflicts b n k (Same s t)
   swap-bad s t (inl (u, B, l, p, q)) = inl (u, B, l, swap s t (In u B) p, swap s t (Out u B) q)
-  swap-bad s t (inr (i, j, p, q, o)) = inr (i, j, p, q, swap s t (Same i j) o)
+  swap-bad s t (inr (i, j, p, q, d, o)) = inr (i, j, p, q, d, swap s t (Same i j) o)
 
   -- nothing new where the two are one class
   idle : (s t : ℕ) → rootAt b s ≡ rootAt b t → (g : Fact) → (known b g ≡ true) ↔ Then b (Same s t) g
@@ -273,17 +280,17 @@ module _ (n k m : ℕ) (b : Branch) (F : WellFormed n k b) where
 
   idle-good : (s t : ℕ) → rootAt b s ≡ rootAt b t → Conflicts b n k (Same s t) → ⊥
   idle-good s t e (inl (u, B, l, p, q)) = not-both u B (idle s t e (In u B) .1 p) (idle s t e (Out u B) .1 q)
-  idle-good s t e (inr (i, j, p, q, o)) = alone i j p q (idle s t e (Same i j) .1 o)
+  idle-good s t e (inr (i, j, p, q, d, o)) = alone i j p q d (idle s t e (Same i j) .1 o)
 
   eq-spec : (s t : ℕ) → s < n → t < n → (o : Option Branch) → Merges k b s t o → (o ≡ none ↔ Conflicts b n k (Same s t)) × ((c : Branch) → o ≡ some c → (g : Fact) → (known c g ≡ true) ↔ Then b (Same s t) g)
   eq-spec s t ls lt o (already e) = (((λ q. let w : false ≡ true = cc in absurd (false≢true w)), (λ c. absurd (idle-good s t e c))), (λ c q g. let z : b ≡ c = cc in subst (λ (x : Branch). (known x g ≡ true) ↔ Then b (Same s t) g) z (idle s t e g)))
   eq-spec s t ls lt o (upper h) = (
     (mergeRoots-to s t ls lt h, mergeRoots-from s t ls lt h),
-    (λ c q g. subst (λ (x : Branch). (known x g ≡ true) ↔ Then b (Same s t) g) (conflictIf-some (ltb (rootAt b t) k || torn (merge b (rootAt b s) (rootAt b t)) (rootAt b s)) (merge b (rootAt b s) (rootAt b t)) c q .1) (merge-is s t ls lt h g)),
+    (λ c q g. subst (λ (x : Branch). (known x g ≡ true) ↔ Then b (Same s t) g) (conflictIf-some ((owns k b (rootAt b s) && owns k b (rootAt b t)) || torn (merge b (rootAt b s) (rootAt b t)) (rootAt b s)) (merge b (rootAt b s) (rootAt b t)) c q .1) (merge-is s t ls lt h g)),
   )
   eq-spec s t ls lt o (lower h) = (
     ((λ q. swap-bad s t (mergeRoots-to t s lt ls h q)), (λ c. mergeRoots-from t s lt ls h (swap-bad t s c))),
-    (λ c q g. subst (λ (x : Branch). (known x g ≡ true) ↔ Then b (Same s t) g) (conflictIf-some (ltb (rootAt b s) k || torn (merge b (rootAt b t) (rootAt b s)) (rootAt b t)) (merge b (rootAt b t) (rootAt b s)) c q .1)
+    (λ c q g. subst (λ (x : Branch). (known x g ≡ true) ↔ Then b (Same s t) g) (conflictIf-some ((owns k b (rootAt b t) && owns k b (rootAt b s)) || torn (merge b (rootAt b t) (rootAt b s)) (rootAt b t)) (merge b (rootAt b t) (rootAt b s)) c q .1)
         ((λ p. swap s t g (merge-is t s lt ls h g .0 p)), (λ p. merge-is t s lt ls h g .1 (swap t s g p)))),
   )
 
@@ -292,7 +299,7 @@ module _ (n k m : ℕ) (b : Branch) (F : WellFormed n k b) where
   assert-spec (Out t A) l = (out-none t A (l .0), λ c q g _. subst (λ (x : Branch). (known x g ≡ true) ↔ Then b (Out t A) g) (conflictIf-some (known b (In t A)) (addOutside b (rootAt b t) A) c q .1) (addOutside-is t A (l .0) g))
   assert-spec (Same s t) l = let z = eq-spec s t (l .0) (l .1) (assert k b (Same s t)) (merges k b s t) in (z .0, λ c q g _. z .1 c q g)
 
-pub assertAll : Asserts
-assertAll n k m le b r =
+pub asserts : Asserts
+asserts n k m le b r =
     let F = reached-fit n k m b r in
     ((λ t l. (still n k b F t, λ u o. omega (arith, below n k b F u, heads n k m b F t u o))), assert-spec n k m b F)

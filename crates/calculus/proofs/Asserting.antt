@@ -13,21 +13,21 @@ use lib.Dec.{eqb, ltb}
 use lib.Bits.{bitOr, bitAnd}
 use lib.IntN.{ℤ, pos, negsuc}
 use borrow.Author.Tests.{eqb-true, eqb-false, eq-eqb, ne-eqb, ltb-true, ltb-false}
-use Rattle.calculus.specs.Lists.{bit}
+use Rattle.calculus.specs.Lists.{bit, any}
 use Rattle.calculus.specs.Meaning.{Valuation}
-use Rattle.calculus.specs.Branch.{Branch, walk, rootAt, insideAt, outsideAt, Fact, In, Out, Same, known, addInside, addOutside, merge, torn, conflictIf, mergeRoots, assert, assertAll}
-use Rattle.calculus.proofs.Bools.{and-l, and-r, and-i, or-cases, or-none-l, or-none-r, not-t, not-f, clash, test}
+use Rattle.calculus.specs.Branch.{Branch, walk, rootAt, insideAt, outsideAt, Fact, In, Out, Same, known, addInside, addOutside, merge, torn, owns, conflictIf, mergeRoots, assert, assertAll}
+use Rattle.calculus.proofs.Bools.{and-l, and-r, and-i, or-cases, or-l, or-r, or-none-l, or-none-r, not-t, not-f, clash, test}
 use Rattle.calculus.proofs.Masks.{bit-and, bit-pow, bit-zero, some-bit, add-at}
 use Rattle.calculus.proofs.Walk.{moved, moved-hi, moved-other, Falls, walk-le, walk-root, root-walk, walk-set}
-use Rattle.calculus.proofs.Truth.{eqZ, eqZ-eq, eq-eqZ, has, truth, Sat, Distinct}
+use Rattle.calculus.proofs.Truth.{eqZ, eqZ-eq, eq-eqZ, has, truth, Sat, Is, Distinct}
 
 -- a sound branch over n terms of which the first k are constants
-pub record WellFormed (n k : ℕ) (b : Branch) : Type 0 where
+pub record WellFormed (n : ℕ) (k : List ℕ) (b : Branch) : Type 0 where
   pub sized : length (b .parents) ≡ n
   pub sized-in : length (b .insides) ≡ n
   pub sized-out : length (b .outsides) ≡ n
   pub falls : Falls (b .parents)
-  pub fixed : (i : ℕ) → i < k → rootAt b i ≡ i
+  pub lone : (i j : ℕ) → Is k i → Is k j → rootAt b i ≡ rootAt b j → i ≡ j
   pub clean : (h A : ℕ) → (insideAt b h A && outsideAt b h A) ≡ false
 
 -- a fact on terms below n and sets below m
@@ -71,7 +71,7 @@ unfolding merge outsideAt
 outside-merge b lo hi j B l = add-at (b .outsides) lo (getD (b .outsides) hi 0) j B l
 
 -- the root is no higher, and its own root
-module _ (n k : ℕ) (b : Branch) (F : WellFormed n k b) where
+module _ (n : ℕ) (k : List ℕ) (b : Branch) (F : WellFormed n k b) where
   pub below : (t : ℕ) → rootAt b t ≤ t
   unfolding rootAt
   below t = walk-le (b .parents) (F .falls) t t
@@ -88,6 +88,23 @@ module _ (n k : ℕ) (b : Branch) (F : WellFormed n k b) where
   pub root-merge : (lo hi : ℕ) → lo < hi → hi < n → rootAt b lo ≡ lo → rootAt b hi ≡ hi → (t : ℕ) → rootAt (merge b lo hi) t ≡ moved lo hi (rootAt b t)
   unfolding rootAt merge
   root-merge lo hi l h el eh t = walk-set (b .parents) (F .falls) lo hi l (rw (F .sized) h) (root lo el) (root hi eh) t
+
+-- a class that holds a constant
+pub owned : (b : Branch) (k : List ℕ) (h : ℕ) → owns k b h ≡ true → (i : ℕ) × Is k i × (rootAt b i ≡ h)
+owned b [] h e = absurd (false≢true e)
+owned b (i ∷ is) h e = go (or-cases (eqb (rootAt b i) h) (owns is b h) e) (owned b is h)
+  where
+    go : (eqb (rootAt b i) h ≡ true) ⊎ (owns is b h ≡ true) → (owns is b h ≡ true → (j : ℕ) × Is is j × (rootAt b j ≡ h)) → (j : ℕ) × Is (i ∷ is) j × (rootAt b j ≡ h)
+    go (inl q) ih = (i, or-l (any (λ (j : ℕ). eqb j i) is) (eq-eqb i i refl), eqb-true (rootAt b i) h q)
+    go (inr q) ih = let r = ih q in (r .0, or-r (eqb i (r .0)) (r .1), r .2)
+
+pub owning : (b : Branch) (k : List ℕ) (h i : ℕ) → Is k i → rootAt b i ≡ h → owns k b h ≡ true
+owning b [] h i e q = e
+owning b (j ∷ js) h i e q = go (or-cases (eqb j i) (any (λ (j : ℕ). eqb j i) js) e) (λ z. owning b js h i z q)
+  where
+    go : (eqb j i ≡ true) ⊎ (any (λ (j : ℕ). eqb j i) js ≡ true) → (any (λ (j : ℕ). eqb j i) js ≡ true → owns js b h ≡ true) → owns (j ∷ js) b h ≡ true
+    go (inl z) ih = or-l (owns js b h) (eq-eqb (rootAt b j) h (ap (rootAt b) (eqb-true j i z) ∙ q))
+    go (inr z) ih = or-r (eqb (rootAt b j) h) (ih z)
 
 -- ---- what values satisfy
 
@@ -184,12 +201,12 @@ sides x y n = go (decLe x y)
     go (no h) = inr (omega arith)
 
 -- asserting t = u either does nothing, or unites two roots, the lower of which belongs to one of the two
-pub data Merges (k : ℕ) (b : Branch) (t u : ℕ) : Option Branch → Type 0 where
+pub data Merges (k : List ℕ) (b : Branch) (t u : ℕ) : Option Branch → Type 0 where
   already : rootAt b t ≡ rootAt b u → Merges k b t u (some b)
   upper : rootAt b t < rootAt b u → Merges k b t u (mergeRoots k b (rootAt b t) (rootAt b u))
   lower : rootAt b u < rootAt b t → Merges k b t u (mergeRoots k b (rootAt b u) (rootAt b t))
 
-pub merges : (k : ℕ) (b : Branch) (t u : ℕ) → Merges k b t u (assert k b (Same t u))
+pub merges : (k : List ℕ) (b : Branch) (t u : ℕ) → Merges k b t u (assert k b (Same t u))
 merges k b t u = go (ℕ-discrete (rootAt b t) (rootAt b u))
   where
     go : Dec (rootAt b t ≡ rootAt b u) → Merges k b t u (assert k b (Same t u))
@@ -221,7 +238,7 @@ torn-none b h e A =
     ∙ ap (λ (m : ℕ). bit m A) (eqb-true (bitAnd (getD (b .insides) h 0) (getD (b .outsides) h 0)) 0 (not-f (eqb (bitAnd (getD (b .insides) h 0) (getD (b .outsides) h 0)) 0) e))
     ∙ bit-zero A
 
-module _ (n k m : ℕ) (b : Branch) (F : WellFormed n k b) where
+module _ (n : ℕ) (k : List ℕ) (m : ℕ) (b : Branch) (F : WellFormed n k b) where
   pub root-in : (t : ℕ) → t < n → rootAt b t < n
   root-in t h = omega (arith, below n k b F t)
 
@@ -239,10 +256,10 @@ module _ (n k m : ℕ) (b : Branch) (F : WellFormed n k b) where
     pub eq-keeps : (t u : ℕ) → t < n → u < n → v .num t ≡ v .num u → (o : Option Branch) → Merges k b t u o → (c : Branch) → o ≡ some c → Sat v c
     eq-keeps t u ht hu e o (already h) c q = let z : b ≡ c = cc in subst (Sat v) z s
     eq-keeps t u ht hu e o (upper h) c q =
-        subst (Sat v) (conflictIf-some (ltb (rootAt b u) k || torn (merge b (rootAt b t) (rootAt b u)) (rootAt b t)) (merge b (rootAt b t) (rootAt b u)) c q .1)
+        subst (Sat v) (conflictIf-some ((owns k b (rootAt b t) && owns k b (rootAt b u)) || torn (merge b (rootAt b t) (rootAt b u)) (rootAt b t)) (merge b (rootAt b t) (rootAt b u)) c q .1)
         (merge-sat v b s t u e (moves t u hu h) (in-ins t ht) (in-outs t ht))
     eq-keeps t u ht hu e o (lower h) c q =
-        subst (Sat v) (conflictIf-some (ltb (rootAt b t) k || torn (merge b (rootAt b u) (rootAt b t)) (rootAt b u)) (merge b (rootAt b u) (rootAt b t)) c q .1)
+        subst (Sat v) (conflictIf-some ((owns k b (rootAt b u) && owns k b (rootAt b t)) || torn (merge b (rootAt b u) (rootAt b t)) (rootAt b u)) (merge b (rootAt b u) (rootAt b t)) c q .1)
         (merge-sat v b s u t (sym e) (moves u t ht h) (in-ins u hu) (in-outs u hu))
 
     pub assert-keeps : (f : Fact) → Ranged n m f → truth v f ≡ true → (c : Branch) → assert k b f ≡ some c → Sat v c
@@ -253,7 +270,7 @@ module _ (n k m : ℕ) (b : Branch) (F : WellFormed n k b) where
     -- and where asserting it conflicts there are none
     module _ (d : Distinct k v) where
       pub mergeRoots-stops : (t u : ℕ) → t < n → u < n → v .num t ≡ v .num u → rootAt b t < rootAt b u → mergeRoots k b (rootAt b t) (rootAt b u) ≡ none → ⊥
-      mergeRoots-stops t u ht hu e l q = go (or-cases (ltb (rootAt b u) k) (torn j (rootAt b t)) (conflictIf-none (ltb (rootAt b u) k || torn j (rootAt b t)) j q))
+      mergeRoots-stops t u ht hu e l q = go (or-cases (owns k b (rootAt b t) && owns k b (rootAt b u)) (torn j (rootAt b t)) (conflictIf-none ((owns k b (rootAt b t) && owns k b (rootAt b u)) || torn j (rootAt b t)) j q))
         where
           j : Branch
           j = merge b (rootAt b t) (rootAt b u)
@@ -264,10 +281,12 @@ module _ (n k m : ℕ) (b : Branch) (F : WellFormed n k b) where
           hj : rootAt j t ≡ rootAt b t
           hj = moves t u hu l t ∙ moved-other (rootAt b t) (rootAt b u) (rootAt b t) (omega arith)
 
-          go : (ltb (rootAt b u) k ≡ true) ⊎ (torn j (rootAt b t) ≡ true) → ⊥
+          go : ((owns k b (rootAt b t) && owns k b (rootAt b u)) ≡ true) ⊎ (torn j (rootAt b t) ≡ true) → ⊥
           go (inl p) =
-              let hk : rootAt b u < k = ltb-true (rootAt b u) k p in
-              let z : rootAt b t ≡ rootAt b u = d (rootAt b t) (rootAt b u) (omega arith) hk (same-num v b s (rootAt b t) t (still n k b F t) ∙ e ∙ same-num v b s u (rootAt b u) (sym (still n k b F u))) in
+              let x = owned b k (rootAt b t) (and-l (owns k b (rootAt b t)) (owns k b (rootAt b u)) p) in
+              let y = owned b k (rootAt b u) (and-r (owns k b (rootAt b t)) (owns k b (rootAt b u)) p) in
+              let z : x .0 ≡ y .0 = d (x .0) (y .0) (x .1) (y .1) (same-num v b s (x .0) t (x .2) ∙ e ∙ same-num v b s u (y .0) (sym (y .2))) in
+              let w : rootAt b t ≡ rootAt b u = sym (x .2) ∙ ap (rootAt b) z ∙ y .2 in
               omega arith
           go (inr p) =
               let w = torn-some j (rootAt b t) p in

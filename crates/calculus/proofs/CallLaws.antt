@@ -18,7 +18,7 @@ use Rattle.calculus.specs.Branch.{Branch, start, known}
 use Rattle.calculus.specs.Search as Ru
 use Rattle.calculus.specs.Search.{Candidate, Next, solved, step, children, next, places}
 use Rattle.calculus.specs.Log.{Event, formed, stepped, log}
-use Rattle.calculus.specs.Problem.{Problem, termCount, Assignment, Satisfies, Accepted}
+use Rattle.calculus.specs.Problem.{Problem, termCount, constantTerms, Assignment, Satisfies, Accepted}
 use Rattle.calculus.specs.Run.{recordOf, Tally, stop, listForm, takeStep, tally, run, listedForms, SatisfiesForm}
 use Rattle.calculus.specs.Run as R
 use Rattle.calculus.specs.Reading.{Parsed, parsed, refused, _>>=_, ask, read}
@@ -90,7 +90,7 @@ abbrev Four : Event → Type 0
 Four (formed b) = Unit {0}
 Four (stepped r) = length r ≡ 4
 
-module _ (n k : ℕ) where
+module _ (n : ℕ) (k : List ℕ) where
   trace-long : (es : List Event) → Each Four es → (l q : ℕ) → length (tally n l q es .trace) ≡ 4 * tally n l q es .steps
   trace-long [] f l q = refl
   trace-long (formed b ∷ es) f l q = go (leb (length (recordOf n b)) q) refl (trace-long es (f .1) l (q - length (recordOf n b)))
@@ -181,7 +181,7 @@ same-solutions bytes budget forms trace prob e v n c a f g =
     let acc = read-accepted bytes prob e in
     let s : Tally = run prob budget (length forms) in
     let d = finished (s .end) (s .forms) v (w .verdict-is) f in
-    let L : List Event = log (termCount prob) (length (prob .constants)) (prob .constraints) (termCount prob * suc (prob .sets)) (start (termCount prob)) in
+    let L : List Event = log (termCount prob) (constantTerms prob) (prob .constraints) (termCount prob * suc (prob .sets)) (start (termCount prob)) in
     let z : listedForms (3 * termCount prob) c (call bytes budget forms trace .forms) ≡ listedForms (3 * termCount prob) (s .forms) (s .records)
     = rw (w .forms-are, sym (w .count-is)) (listed-app (3 * termCount prob) (s .forms) (s .records) (drop (length (s .records)) forms) (records-long (termCount prob) L budget (length forms))) in
     subst (λ (x : List (List ℕ)). Satisfies prob g ↔ Some (SatisfiesForm prob g) x) (sym z) (run-solutions prob acc budget (length forms) d g)
@@ -192,10 +192,10 @@ follows bytes budget forms trace prob q v n c a =
     let w = was bytes budget forms trace prob e v n c a in
     let acc = read-accepted bytes prob e in
     let s : Tally = run prob budget (length forms) in
-    let L : List Event = log (termCount prob) (length (prob .constants)) (prob .constraints) (termCount prob * suc (prob .sets)) (start (termCount prob)) in
+    let L : List Event = log (termCount prob) (constantTerms prob) (prob .constraints) (termCount prob * suc (prob .sets)) (start (termCount prob)) in
     let g = run-goes prob acc budget (length forms) in
     let long : length (s .records) ≡ c * (3 * termCount prob) = records-long (termCount prob) L budget (length forms) ∙ ap (λ (x : ℕ). x * (3 * termCount prob)) (w .count-is) in
-    let four : length (s .trace) ≡ 4 * n = trace-long (termCount prob) (length (prob .constants)) L (log-four (termCount prob) (length (prob .constants)) (prob .constraints) (termCount prob * suc (prob .sets)) (start (termCount prob))) budget (length forms) ∙ ap (λ (x : ℕ). 4 * x) (w .steps-are) in (
+    let four : length (s .trace) ≡ 4 * n = trace-long (termCount prob) (constantTerms prob) L (log-four (termCount prob) (constantTerms prob) (prob .constraints) (termCount prob * suc (prob .sets)) (start (termCount prob))) budget (length forms) ∙ ap (λ (x : ℕ). 4 * x) (w .steps-are) in (
       s .records,
       s .trace,
       g .0,
@@ -220,7 +220,7 @@ of-noroom R.NOROOM c p = refl
 pub stops : Stops
 stops bytes budget forms trace prob e n c =
     let s : Tally = run prob budget (length forms) in
-    let L : List Event = log (termCount prob) (length (prob .constants)) (prob .constraints) (termCount prob * suc (prob .sets)) (start (termCount prob)) in (
+    let L : List Event = log (termCount prob) (constantTerms prob) (prob .constraints) (termCount prob * suc (prob .sets)) (start (termCount prob)) in (
       (λ a. let w = was bytes budget forms trace prob e SPENT n c a in sym (w .steps-are) ∙ spent-all (termCount prob) L budget (length forms) (of-spent (s .end) (s .forms) (w .verdict-is))),
       (λ a. let w = was bytes budget forms trace prob e NOROOM n c a in subst (λ (x : ℕ). length forms < suc x * (3 * termCount prob)) (w .count-is) (room-full (termCount prob) L budget (length forms) (of-noroom (s .end) (s .forms) (w .verdict-is)))),
     )
@@ -257,12 +257,12 @@ kept bytes budget forms trace = (
   (λ n q. rw q),
   (λ prob q.
       let s : Tally = run prob budget (length forms) in
-      let L : List Event = log (termCount prob) (length (prob .constants)) (prob .constraints) (termCount prob * suc (prob .sets)) (start (termCount prob)) in
+      let L : List Event = log (termCount prob) (constantTerms prob) (prob .constraints) (termCount prob * suc (prob .sets)) (start (termCount prob)) in
       let long = records-long (termCount prob) L budget (length forms) in
       let fit = records-fit (termCount prob) L budget (length forms) in
       let few = steps-fit (termCount prob) L budget (length forms) in
       let room = asked-budget bytes budget (length trace) prob q in
-      let four = trace-long (termCount prob) (length (prob .constants)) L (log-four (termCount prob) (length (prob .constants)) (prob .constraints) (termCount prob * suc (prob .sets)) (start (termCount prob))) budget (length forms) in
+      let four = trace-long (termCount prob) (constantTerms prob) L (log-four (termCount prob) (constantTerms prob) (prob .constraints) (termCount prob * suc (prob .sets)) (start (termCount prob))) budget (length forms) in
       rw q (
         verdictOf (s .end) (s .forms),
         s .steps,

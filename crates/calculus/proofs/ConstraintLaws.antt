@@ -15,10 +15,10 @@ use borrow.Author.Tests.{eqb-true, eq-eqb, ne-eqb, lt-ltb, le-ltb}
 use Rattle.calculus.specs.Lists.{all, any, upFrom, Each}
 use Rattle.calculus.specs.Relations.{Relation, holdsAt, Negation, unequal, denies}
 use Rattle.calculus.specs.Meaning.{Constraint, member, nonmember, same, different, relation, negation, exactly, interval, entries, _∈_, Valuation, Relates, Holds}
-use Rattle.calculus.specs.Problem.{Problem, nameable, termCount, Assignment, valueOf, values, Satisfies, classValue, Rising, Names, uses, Tied, Numbered, Accepted}
-use Rattle.calculus.proofs.Bools.{and-l, and-r, and-i, clash, test, each-all, all-each, Each-imp, Each-zip}
+use Rattle.calculus.specs.Problem.{Problem, nameable, termCount, Assignment, valueOf, values, Satisfies, classValue, constantTerms, Rising, Names, uses, Tied, Numbered, Accepted}
+use Rattle.calculus.proofs.Bools.{and-l, and-r, and-i, or-cases, clash, test, each-all, all-each, Each-imp, Each-zip}
 use Rattle.calculus.proofs.Tables.{relation-none}
-use Rattle.calculus.proofs.Truth.{has, has-in, in-has, relates-test, test-relates, Distinct}
+use Rattle.calculus.proofs.Truth.{has, has-in, in-has, relates-test, test-relates, Is, Distinct}
 use Rattle.calculus.proofs.RuleLaws.{ConstraintIn, Lists, Good}
 use Rattle.calculus.proofs.Stepping.{up-each, up-at}
 
@@ -113,6 +113,18 @@ breaks k l m r h = go (all-or-not t l) (all-or-not t m) (all-or-not t r)
     go (inl p) (inl q) (inr z) = z
     go (inl p) (inl q) (inl s) = absurd (h (test-relates k l m r (every-x p q s)))
 
+-- the constants' terms are those below their count
+is-up : (s n i : ℕ) → Is (upFrom s n) i → (s ≤ i) × (i < s + n)
+is-up s zero i e = absurd (false≢true e)
+is-up s (suc n) i e = go (or-cases (eqb s i) (any (λ (j : ℕ). eqb j i) (upFrom (suc s) n)) e) (is-up (suc s) n i)
+  where
+    go : (eqb s i ≡ true) ⊎ (any (λ (j : ℕ). eqb j i) (upFrom (suc s) n) ≡ true) → (any (λ (j : ℕ). eqb j i) (upFrom (suc s) n) ≡ true → (suc s ≤ i) × (i < suc s + n)) → (s ≤ i) × (i < s + suc n)
+    go (inl q) ih = omega (arith, eqb-true s i q)
+    go (inr q) ih = omega (arith, ih q)
+
+pub is-below : (n i : ℕ) → Is (upFrom 0 n) i → i < n
+is-below n i e = omega (arith, is-up 0 n i e)
+
 pub last-le : (ls : List Constraint) (w last : ℕ) → Numbered w last ls → w ≤ last
 last-le [] w last e = omega arith
 last-le (l ∷ ls) w last e = omega (arith, last-le ls (w + uses l) last (e .1))
@@ -146,8 +158,8 @@ module _ (prob : Problem) (acc : Accepted prob) where
   -- ---- values with the problem's constants
 
   module _ (v : Valuation) (own : (p : ℕ) → p < K → v .num p ≡ getD (prob .constants) p (pos 0)) where
-    pub constants-distinct : Distinct K v
-    constants-distinct i j li lj e = rising-inj (prob .constants) (acc .rising) i j li lj (sym (own i li) ∙ e ∙ own j lj)
+    pub constants-distinct : Distinct (constantTerms prob) v
+    constants-distinct i j p q e = let li = is-below K i p in let lj = is-below K j q in rising-inj (prob .constants) (acc .rising) i j li lj (sym (own i li) ∙ e ∙ own j lj)
 
     -- an interval is its entries
     module _ (i j : ℕ) (li : i < K) (lj : j < K) (fill : (x : ℤ) → getD (prob .constants) i (pos 0) ≤ℤ x → x ≤ℤ getD (prob .constants) j (pos 0) → x ∈ prob .constants) where

@@ -16,7 +16,7 @@ use Rattle.calculus.specs.Meaning.{Constraint, member, nonmember, same, 
 use Rattle.calculus.specs.Branch.{Branch, rootAt, Fact, In, Out, Same, known, assertAll}
 use Rattle.calculus.specs.Search as Ru
 use Rattle.calculus.specs.Search.{Move, propagations, splits, rootsOf, Candidate, numbered, places, Next, solved, step, children, next, distinct}
-use Rattle.calculus.specs.Problem.{Problem, termCount}
+use Rattle.calculus.specs.Problem.{Problem, termCount, constantTerms}
 use Rattle.calculus.specs.Words.{KnownIn, KnownOut, OneClass, Root, Place, Before, Fires, rule1, rule2, rule3, rule4, rule5, rule6, rule7, rule8, rule9, rule10, rule11, rule12, rule13, rule14, rule15, rule16, rule17, rule18, rule19, rule20, rule19′, rule20′, nextOf, Enabled, Path}
 use Rattle.calculus.specs.Demands.{FirstPlace}
 use Rattle.calculus.proofs.Bools.{and-l, and-r, and-i, not-t, each-all, all-each, or-none-l, or-none-r}
@@ -672,21 +672,21 @@ first-place bytes prob q b = (nothing, found)
       where
         at : (o : Option Candidate) → first (appP (termCount prob) b) (places (termCount prob) (prob .constraints) b) ≡ o → (p : Place) → ¬ Enabled prob b p
         at none u p x = E .lacks u p x
-        at (some y) u p x = let z : Ru.stepped (length (prob .constants)) b (some y) ≡ solved = ap (Ru.stepped (length (prob .constants)) b) (sym u) ∙ e in let w : false ≡ true = cc in false≢true w
+        at (some y) u p x = let z : Ru.stepped (constantTerms prob) b (some y) ≡ solved = ap (Ru.stepped (constantTerms prob) b) (sym u) ∙ e in let w : false ≡ true = cc in false≢true w
 
     found : (r : List ℕ) (cs : List Branch) → nextOf prob b ≡ step r cs → (p : Place)
         × Enabled prob b p × ((q : Place) → Enabled prob b q → ¬ Before q p)
         × (r ≡ p .rule ∷ p .constraint ∷ p .concerned ∷ length cs ∷ [])
-        × (cs ≡ picked (assertAll (length (prob .constants)) b) (p .alternatives))
+        × (cs ≡ picked (assertAll (constantTerms prob) b) (p .alternatives))
     found r cs e = at (first (appP (termCount prob) b) (places (termCount prob) (prob .constraints) b)) refl
       where
         at : (o : Option Candidate) → first (appP (termCount prob) b) (places (termCount prob) (prob .constraints) b) ≡ o → (p : Place)
             × Enabled prob b p × ((q : Place) → Enabled prob b q → ¬ Before q p)
             × (r ≡ p .rule ∷ p .constraint ∷ p .concerned ∷ length cs ∷ [])
-            × (cs ≡ picked (assertAll (length (prob .constants)) b) (p .alternatives))
-        at none u = let z : solved ≡ step r cs = ap (Ru.stepped (length (prob .constants)) b) (sym u) ∙ e in let w : false ≡ true = cc in absurd (false≢true w)
+            × (cs ≡ picked (assertAll (constantTerms prob) b) (p .alternatives))
+        at none u = let z : solved ≡ step r cs = ap (Ru.stepped (constantTerms prob) b) (sym u) ∙ e in let w : false ≡ true = cc in absurd (false≢true w)
         at (some y) u =
-            let k : ℕ = length (prob .constants) in
+            let k : List ℕ = constantTerms prob in
             let z : step (y .move .rule ∷ y .constraint ∷ y .concerned ∷ length (children k b (y .move)) ∷ []) (children k b (y .move)) ≡ step r cs = ap (Ru.stepped k b) (sym u) ∙ e in
             let c : children k b (y .move) ≡ cs = cc in
             let t : (y .move .rule ∷ y .constraint ∷ y .concerned ∷ length (children k b (y .move)) ∷ []) ≡ r = cc in

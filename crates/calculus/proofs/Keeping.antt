@@ -13,11 +13,12 @@ use lib.Dec.{eqb, ltb}
 use lib.Bits.{bitOr, bitAnd}
 use borrow.Author.Tests.{eqb-true, eqb-false, eq-eqb, ne-eqb, ltb-true, ltb-false}
 use Rattle.calculus.specs.Lists.{bit, upFrom}
-use Rattle.calculus.specs.Branch.{Branch, start, rootAt, insideAt, outsideAt, Fact, In, Out, Same, known, addInside, addOutside, merge, torn, conflictIf, mergeRoots, assert, assertAll}
+use Rattle.calculus.specs.Branch.{Branch, start, rootAt, insideAt, outsideAt, Fact, In, Out, Same, known, addInside, addOutside, merge, torn, owns, conflictIf, mergeRoots, assert, assertAll}
 use Rattle.calculus.proofs.Bools.{and-l, and-r, and-i, or-cases, or-none-l, or-none-r, not-t, not-f, clash, test}
 use Rattle.calculus.proofs.Masks.{bit-zero}
+use Rattle.calculus.proofs.Truth.{Is}
 use Rattle.calculus.proofs.Walk.{moved, moved-hi, moved-other, set-falls}
-use Rattle.calculus.proofs.Asserting.{WellFormed, Ranged, Merges, already, upper, lower, merges, inside-addInside, outside-addInside, root-addInside, inside-addOutside, outside-addOutside, root-addOutside, inside-merge, outside-merge, below, still, root, root-merge, torn-none, conflictIf-some, root-in, in-ins, in-outs}
+use Rattle.calculus.proofs.Asserting.{owning, WellFormed, Ranged, Merges, already, upper, lower, merges, inside-addInside, outside-addInside, root-addInside, inside-addOutside, outside-addOutside, root-addOutside, inside-merge, outside-merge, below, still, root, root-merge, torn-none, conflictIf-some, root-in, in-ins, in-outs}
 
 -- one more bit on one side, where the other side has it not
 one-more : (i o p : Bool) → (i && o) ≡ false → (p ≡ true → o ≡ false) → ((i || p) && o) ≡ false
@@ -35,7 +36,7 @@ or-no : (a b : Bool) → b ≡ false → (a || b) ≡ a
 or-no true b e = refl
 or-no false b e = e
 
-module _ (n k : ℕ) (b : Branch) (F : WellFormed n k b) where
+module _ (n : ℕ) (k : List ℕ) (b : Branch) (F : WellFormed n k b) where
   addInside-fit : (h A : ℕ) → h < n → outsideAt b h A ≡ false → WellFormed n k (addInside b h A)
   unfolding addInside
   addInside-fit h A l e = record {
@@ -43,7 +44,7 @@ module _ (n k : ℕ) (b : Branch) (F : WellFormed n k b) where
     sized-in = length-set (b .insides) h (bitOr (getD (b .insides) h 0) (2 ^ A)) ∙ F .sized-in;
     sized-out = F .sized-out;
     falls = F .falls;
-    fixed = λ i q. rw (root-addInside b h A i) (F .fixed i q);
+    lone = λ i j p q e. F .lone i j p q (sym (root-addInside b h A i) ∙ e ∙ root-addInside b h A j);
     clean = λ j B. rw (inside-addInside b h A j B (rw (F .sized-in) l), outside-addInside b h A j B)
         (one-more (insideAt b j B) (outsideAt b j B) (eqb j h && eqb B A) (F .clean j B)
         (λ p. rw (eqb-true j h (and-l (eqb j h) (eqb B A) p), eqb-true B A (and-r (eqb j h) (eqb B A) p)) e));
@@ -56,13 +57,13 @@ module _ (n k : ℕ) (b : Branch) (F : WellFormed n k b) where
     sized-in = F .sized-in;
     sized-out = length-set (b .outsides) h (bitOr (getD (b .outsides) h 0) (2 ^ A)) ∙ F .sized-out;
     falls = F .falls;
-    fixed = λ i q. rw (root-addOutside b h A i) (F .fixed i q);
+    lone = λ i j p q e. F .lone i j p q (sym (root-addOutside b h A i) ∙ e ∙ root-addOutside b h A j);
     clean = λ j B. rw (inside-addOutside b h A j B, outside-addOutside b h A j B (rw (F .sized-out) l), and-flip (insideAt b j B))
         (one-more (outsideAt b j B) (insideAt b j B) (eqb j h && eqb B A) (and-flip (outsideAt b j B) (insideAt b j B) ∙ F .clean j B)
         (λ p. rw (eqb-true j h (and-l (eqb j h) (eqb B A) p), eqb-true B A (and-r (eqb j h) (eqb B A) p)) e));
   }
 
-  module _ (lo hi : ℕ) (l : lo < hi) (hn : hi < n) (hk : k ≤ hi) (hl : rootAt b lo ≡ lo) (hu : rootAt b hi ≡ hi) (nt : torn (merge b lo hi) lo ≡ false) where
+  module _ (lo hi : ℕ) (l : lo < hi) (hn : hi < n) (hk : (owns k b lo && owns k b hi) ≡ false) (hl : rootAt b lo ≡ lo) (hu : rootAt b hi ≡ hi) (nt : torn (merge b lo hi) lo ≡ false) where
     hh : (t : ℕ) → rootAt (merge b lo hi) t ≡ moved lo hi (rootAt b t)
     hh t = root-merge n k b F lo hi l hn hl hu t
 
@@ -73,6 +74,22 @@ module _ (n k : ℕ) (b : Branch) (F : WellFormed n k b) where
         go (yes e) = rw e (torn-none (merge b lo hi) lo nt B)
         go (no e) = rw (inside-merge b lo hi j B (rw (F .sized-in) (omega arith)), outside-merge b lo hi j B (rw (F .sized-out) (omega arith)), ne-eqb j lo e, or-no (insideAt b j B) false refl, or-no (outsideAt b j B) false refl) (F .clean j B)
 
+    -- not both classes hold a constant
+    not-both : (i j : ℕ) → Is k i → Is k j → rootAt b i ≡ hi → rootAt b j ≡ lo → ⊥
+    not-both i j p q x y = clash (and-i (owning b k lo j q y) (owning b k hi i p x)) hk
+
+    merge-lone : (i j : ℕ) → Is k i → Is k j → rootAt (merge b lo hi) i ≡ rootAt (merge b lo hi) j → i ≡ j
+    merge-lone i j p q e = go (ℕ-discrete (rootAt b i) hi) (ℕ-discrete (rootAt b j) hi)
+      where
+        z : moved lo hi (rootAt b i) ≡ moved lo hi (rootAt b j)
+        z = sym (hh i) ∙ e ∙ hh j
+
+        go : Dec (rootAt b i ≡ hi) → Dec (rootAt b j ≡ hi) → i ≡ j
+        go (yes x) (yes y) = F .lone i j p q (x ∙ sym y)
+        go (yes x) (no y) = absurd (not-both i j p q x (sym (moved-other lo hi (rootAt b j) y) ∙ sym z ∙ ap (moved lo hi) x ∙ moved-hi lo hi))
+        go (no x) (yes y) = absurd (not-both j i q p y (sym (moved-other lo hi (rootAt b i) x) ∙ z ∙ ap (moved lo hi) y ∙ moved-hi lo hi))
+        go (no x) (no y) = F .lone i j p q (sym (moved-other lo hi (rootAt b i) x) ∙ z ∙ moved-other lo hi (rootAt b j) y)
+
     merge-fit : WellFormed n k (merge b lo hi)
     unfolding merge
     merge-fit = record {
@@ -80,16 +97,16 @@ module _ (n k : ℕ) (b : Branch) (F : WellFormed n k b) where
       sized-in = length-set (b .insides) lo (bitOr (getD (b .insides) lo 0) (getD (b .insides) hi 0)) ∙ F .sized-in;
       sized-out = length-set (b .outsides) lo (bitOr (getD (b .outsides) lo 0) (getD (b .outsides) hi 0)) ∙ F .sized-out;
       falls = set-falls (b .parents) (F .falls) lo hi l (rw (F .sized) hn) (root n k b F lo hl) (root n k b F hi hu);
-      fixed = λ i q. hh i ∙ ap (moved lo hi) (F .fixed i q) ∙ moved-other lo hi i (omega arith);
+      lone = merge-lone;
       clean = merge-clean;
     }
 
   mergeRoots-fit : (t u : ℕ) → t < n → u < n → rootAt b t < rootAt b u → (c : Branch) → mergeRoots k b (rootAt b t) (rootAt b u) ≡ some c → WellFormed n k c
   mergeRoots-fit t u ht hu l c q =
-      let w = conflictIf-some (ltb (rootAt b u) k || torn (merge b (rootAt b t) (rootAt b u)) (rootAt b t)) (merge b (rootAt b t) (rootAt b u)) c q in
+      let w = conflictIf-some ((owns k b (rootAt b t) && owns k b (rootAt b u)) || torn (merge b (rootAt b t) (rootAt b u)) (rootAt b t)) (merge b (rootAt b t) (rootAt b u)) c q in
       subst (WellFormed n k) (w .1)
-      (merge-fit (rootAt b t) (rootAt b u) l (omega (arith, below n k b F u)) (ltb-false (rootAt b u) k (or-none-l (ltb (rootAt b u) k) (torn (merge b (rootAt b t) (rootAt b u)) (rootAt b t)) (w .0))) (still n k b F t) (still n k b F u)
-      (or-none-r (ltb (rootAt b u) k) (torn (merge b (rootAt b t) (rootAt b u)) (rootAt b t)) (w .0)))
+      (merge-fit (rootAt b t) (rootAt b u) l (omega (arith, below n k b F u)) (or-none-l (owns k b (rootAt b t) && owns k b (rootAt b u)) (torn (merge b (rootAt b t) (rootAt b u)) (rootAt b t)) (w .0)) (still n k b F t) (still n k b F u)
+      (or-none-r (owns k b (rootAt b t) && owns k b (rootAt b u)) (torn (merge b (rootAt b t) (rootAt b u)) (rootAt b t)) (w .0)))
 
   eq-fit : (t u : ℕ) → t < n → u < n → (o : Option Branch) → Merges k b t u o → (c : Branch) → o ≡ some c → WellFormed n k c
   eq-fit t u ht hu o (already h) c q = let z : b ≡ c = cc in subst (WellFormed n k) z F

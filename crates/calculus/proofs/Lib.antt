@@ -29,3 +29,4 @@ pub mod Models
 pub mod AssertSpec
 pub mod NoChoice
 pub mod FirstPlace
+pub mod Low

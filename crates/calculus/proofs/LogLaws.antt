@@ -39,7 +39,7 @@ formsOf-app [] ys = refl
 formsOf-app (formed b ∷ xs) ys = ap (λ (r : List Branch). b ∷ r) (formsOf-app xs ys)
 formsOf-app (stepped r ∷ xs) ys = formsOf-app xs ys
 
-module _ (n k m : ℕ) (ls : List Constraint) (li : Each (ConstraintIn n m) ls) where
+module _ (n : ℕ) (k : List ℕ) (m : ℕ) (ls : List Constraint) (li : Each (ConstraintIn n m) ls) where
   -- some child of a list has a form that is satisfied
   some-child : (v : Valuation) (f : Branch → List Event) → ((b : Branch) → WellFormed n k b → Sat v b → Some (Sat v) (formsOf (f b)))
       → (cs : List Branch) → Each (λ c. WellFormed n k c) cs → Some (Sat v) cs → Some (Sat v) (formsOf (gather f cs))
@@ -119,11 +119,11 @@ no-numbered : (f : Constraint → List (ℕ × Move)) (i : ℕ) (ls : List Const
 no-numbered f i [] e = refl
 no-numbered f i (l ∷ ls) e = rw (e .0) (no-numbered f (suc i) ls (e .1))
 
-no-next : (k m : ℕ) (ls : List Constraint) → Each (ConstraintIn 0 m) ls → (b : Branch) → next 0 k ls b ≡ solved
+no-next : (k : List ℕ) (m : ℕ) (ls : List Constraint) → Each (ConstraintIn 0 m) ls → (b : Branch) → next 0 k ls b ≡ solved
 no-next k m ls li b =
     rw (no-numbered (propagations [] b) 0 ls (Each-imp (ConstraintIn 0 m) (λ l. propagations [] b l ≡ []) ls (no-propagations m b) li), no-numbered (splits [] b) 0 ls (Each-imp (ConstraintIn 0 m) (λ l. splits [] b l ≡ []) ls (no-splits m b) li))
 
-module _ (n k m : ℕ) (ls : List Constraint) (li : Each (ConstraintIn n m) ls) where
+module _ (n : ℕ) (k : List ℕ) (m : ℕ) (ls : List Constraint) (li : Each (ConstraintIn n m) ls) where
   pub at-zero : (b : Branch) → WellFormed n k b → measure n m b ≤ 0 → next n k ls b ≡ solved
   at-zero b F l = go n refl
     where

@@ -6,13 +6,13 @@ use mathlib.Core.List.{List, [], _∷_}
 use Prim.Native.Nat.{ℕ, zero, suc, _+_, _^_, _<_, _≤_}
 use native.Mathlib.Omega.{arith}
 use native.Mathlib.Decide.{ℕ-discrete, decLt}
-use mathlib.Core.Bool.{_||_}
+use mathlib.Core.Bool.{_&&_, _||_}
 use lib.Dec.{ltb}
 use lib.ListN.{length, getD, set, replicate}
 use lib.Seq.{getD-set-same, getD-set-other, set-out}
 use lib.Bits.{bitOr, or-lt}
 use lib.Pow.{pow-lt, pow-pos}
-use Rattle.calculus.specs.Branch.{Branch, start, rootAt, Fact, In, Out, Same, known, addInside, addOutside, merge, torn, conflictIf, mergeRoots, assert}
+use Rattle.calculus.specs.Branch.{Branch, start, rootAt, Fact, In, Out, Same, known, addInside, addOutside, merge, torn, owns, conflictIf, mergeRoots, assert}
 use Rattle.calculus.proofs.Asserting.{Merges, already, upper, lower, merges, conflictIf-some, Ranged}
 
 abbrev Below : ℕ → List ℕ → Type 0
@@ -46,12 +46,12 @@ module _ (m : ℕ) (b : Branch) (s : Small m b) where
     outsides = below-set m (b .outsides) lo (bitOr (getD (b .outsides) lo 0) (getD (b .outsides) hi 0)) (s .outsides) (or-lt m (getD (b .outsides) lo 0) (getD (b .outsides) hi 0) (s .outsides lo) (s .outsides hi));
   }
 
-  eq-small : (k t u : ℕ) (o : Option Branch) → Merges k b t u o → (c : Branch) → o ≡ some c → Small m c
+  eq-small : (k : List ℕ) (t u : ℕ) (o : Option Branch) → Merges k b t u o → (c : Branch) → o ≡ some c → Small m c
   eq-small k t u o (already h) c q = let z : b ≡ c = cc in subst (Small m) z s
-  eq-small k t u o (upper h) c q = subst (Small m) (conflictIf-some (ltb (rootAt b u) k || torn (merge b (rootAt b t) (rootAt b u)) (rootAt b t)) (merge b (rootAt b t) (rootAt b u)) c q .1) (merge-small (rootAt b t) (rootAt b u))
-  eq-small k t u o (lower h) c q = subst (Small m) (conflictIf-some (ltb (rootAt b t) k || torn (merge b (rootAt b u) (rootAt b t)) (rootAt b u)) (merge b (rootAt b u) (rootAt b t)) c q .1) (merge-small (rootAt b u) (rootAt b t))
+  eq-small k t u o (upper h) c q = subst (Small m) (conflictIf-some ((owns k b (rootAt b t) && owns k b (rootAt b u)) || torn (merge b (rootAt b t) (rootAt b u)) (rootAt b t)) (merge b (rootAt b t) (rootAt b u)) c q .1) (merge-small (rootAt b t) (rootAt b u))
+  eq-small k t u o (lower h) c q = subst (Small m) (conflictIf-some ((owns k b (rootAt b u) && owns k b (rootAt b t)) || torn (merge b (rootAt b u) (rootAt b t)) (rootAt b u)) (merge b (rootAt b u) (rootAt b t)) c q .1) (merge-small (rootAt b u) (rootAt b t))
 
-  pub assert-small : (n k : ℕ) (f : Fact) → Ranged n m f → (c : Branch) → assert k b f ≡ some c → Small m c
+  pub assert-small : (n : ℕ) (k : List ℕ) (f : Fact) → Ranged n m f → (c : Branch) → assert k b f ≡ some c → Small m c
   assert-small n k (In t A) r c q = subst (Small m) (conflictIf-some (known b (Out t A)) (addInside b (rootAt b t) A) c q .1) (addInside-small (rootAt b t) A (r .1))
   assert-small n k (Out t A) r c q = subst (Small m) (conflictIf-some (known b (In t A)) (addOutside b (rootAt b t) A) c q .1) (addOutside-small (rootAt b t) A (r .1))
   assert-small n k (Same t u) r c q = eq-small k t u (assert k b (Same t u)) (merges k b t u) c q

@@ -12,7 +12,7 @@ use lib.ListN.{length, getD}
 use lib.Dec.{eqb, ltb}
 use borrow.Author.Tests.{eqb-true, eqb-false, eq-eqb, ne-eqb, ltb-true, ltb-false}
 use Rattle.calculus.specs.Lists.{all}
-use Rattle.calculus.specs.Branch.{Branch, rootAt, insideAt, outsideAt, Fact, In, Out, Same, known, addInside, addOutside, merge, torn, conflictIf, mergeRoots, assert, assertAll}
+use Rattle.calculus.specs.Branch.{Branch, rootAt, insideAt, outsideAt, Fact, In, Out, Same, known, addInside, addOutside, merge, torn, owns, conflictIf, mergeRoots, assert, assertAll}
 use Rattle.calculus.proofs.Bools.{and-l, and-r, and-i, or-cases, or-l, or-r, or-none-l, or-none-r, clash, test, all-cong}
 use Rattle.calculus.proofs.Walk.{moved, moved-hi, moved-other}
 use Rattle.calculus.proofs.Asserting.{WellFormed, Ranged, Merges, already, upper, lower, merges, inside-addInside, outside-addInside, root-addInside, inside-addOutside, outside-addOutside, root-addOutside, inside-merge, outside-merge, below, still, root-merge, conflictIf-some, root-in, in-ins, in-outs}
@@ -77,7 +77,7 @@ weight-lt m b c t hc hb g A l x y =
     rw (eq-eqb (rootAt c t) t hc, eq-eqb (rootAt b t) t hb)
     (suc-le-suc (sum-lt m (open? c t) (open? b t) (λ B l′. open-le b c t B (g B)) A l (rw (x, y) (le-refl 1))))
 
-module _ (n k m : ℕ) (b : Branch) (F : WellFormed n k b) where
+module _ (n : ℕ) (k : List ℕ) (m : ℕ) (b : Branch) (F : WellFormed n k b) where
   -- put and bar
   addInside-grows : (h A t : ℕ) → h < n → Grows b (addInside b h A) t
   addInside-grows h A t l B e = rw (inside-addInside b h A t B (rw (F .sized-in) l), outside-addInside b h A t B) (go (or-cases (insideAt b t B) (outsideAt b t B) e))
@@ -133,7 +133,7 @@ module _ (n k m : ℕ) (b : Branch) (F : WellFormed n k b) where
 
   mergeRoots-lt : (t u : ℕ) → t < n → u < n → rootAt b t < rootAt b u → (c : Branch) → mergeRoots k b (rootAt b t) (rootAt b u) ≡ some c → measure n m c < measure n m b
   mergeRoots-lt t u ht hu l c q =
-      subst (λ (d : Branch). measure n m d < measure n m b) (conflictIf-some (ltb (rootAt b u) k || torn (merge b (rootAt b t) (rootAt b u)) (rootAt b t)) (merge b (rootAt b t) (rootAt b u)) c q .1)
+      subst (λ (d : Branch). measure n m d < measure n m b) (conflictIf-some ((owns k b (rootAt b t) && owns k b (rootAt b u)) || torn (merge b (rootAt b t) (rootAt b u)) (rootAt b t)) (merge b (rootAt b t) (rootAt b u)) c q .1)
       (merge-lt (rootAt b t) (rootAt b u) l (root-in n k m b F u hu) (still n k b F t) (still n k b F u))
 
   eq-lt : (t u : ℕ) → t < n → u < n → (o : Option Branch) → Merges k b t u o → (c : Branch) → o ≡ some c → eqb (rootAt b t) (rootAt b u) ≡ false → measure n m c < measure n m b

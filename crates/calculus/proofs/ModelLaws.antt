@@ -38,7 +38,7 @@ module _ (val : ℕ → ℤ) where
   abbrev pub modelValues : ℕ → Branch → Valuation
   modelValues n b = record { num = λ t. val (rootAt b t); members = λ A. map val (keep (λ h. insideAt b h A) (rootsOf n b)) }
 
-  module _ (n k : ℕ) (b : Branch) (F : WellFormed n k b) (inj : (i j : ℕ) → i < n → j < n → val i ≡ val j → i ≡ j) where
+  module _ (n : ℕ) (k : List ℕ) (b : Branch) (F : WellFormed n k b) (inj : (i j : ℕ) → IsHead n b i → IsHead n b j → val i ≡ val j → i ≡ j) where
     abbrev w : Valuation
     w = modelValues n b
 
@@ -57,7 +57,7 @@ module _ (val : ℕ → ℤ) where
     has-root : (A h : ℕ) → IsHead n b h → has (w .members A) (val h) ≡ insideAt b h A
     has-root A h i = same-test (has (w .members A) (val h)) (insideAt b h A)
         (λ e. let z = from-member A (val h) (has-in (w .members A) (val h) e) in
-        ap (λ (j : ℕ). insideAt b j A) (inj h (z .0) (i .0) (z .1 .0 .0) (z .2)) ∙ z .1 .1)
+        ap (λ (j : ℕ). insideAt b j A) (inj h (z .0) i (z .1 .0) (z .2)) ∙ z .1 .1)
         (λ e. in-has (w .members A) (val h) (to-member A h i e))
 
     has-term : (t A : ℕ) → t < n → has (w .members A) (w .num t) ≡ known b (In t A)
@@ -163,7 +163,7 @@ module _ (val : ℕ → ℤ) where
     model-good m (member t A) r f s = has-in (w .members A) (w .num t) (has-term t A (r .0) ∙ propagations-known 1 (In t A) (f .0))
     model-good m (nonmember t A) r f s = λ x. clash (in-has (w .members A) (w .num t) x) (out-term t A (r .0) (propagations-known 2 (Out t A) (f .0)))
     model-good m (same t u) r f s = ap val (eqb-true (rootAt b t) (rootAt b u) (propagations-known 3 (Same t u) (f .0)))
-    model-good m (different t u) r f s = λ x. go (eqb (rootAt b t) (rootAt b u)) (eq-eqb (rootAt b t) (rootAt b u) (inj (rootAt b t) (rootAt b u) (is-root t (r .0) .0) (is-root u (r .1) .0) x)) (f .0)
+    model-good m (different t u) r f s = λ x. go (eqb (rootAt b t) (rootAt b u)) (eq-eqb (rootAt b t) (rootAt b u) (inj (rootAt b t) (rootAt b u) (is-root t (r .0)) (is-root u (r .1)) x)) (f .0)
       where
         go : (y : Bool) → y ≡ true → ((y && true) && true) ≡ false → ⊥
         go true p q = true≢false q

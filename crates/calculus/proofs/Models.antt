@@ -18,10 +18,10 @@ use Rattle.calculus.specs.Meaning.{Constraint, Valuation, Holds}
 use Rattle.calculus.specs.Branch.{Branch, start, rootAt, insideAt, outsideAt, Fact, assert}
 use Rattle.calculus.specs.Search.{Next, solved, step, next, rootsOf}
 use Rattle.calculus.specs.Log.{Event, formed, stepped, log, formsOf}
-use Rattle.calculus.specs.Problem.{Problem, termCount, Assignment, values, Satisfies, AgreesBranch, Accepted, Names, classValue, branchModel, problemForms}
+use Rattle.calculus.specs.Problem.{Problem, termCount, constantTerms, Assignment, values, Satisfies, AgreesBranch, Accepted, Names, classValue, branchModel, problemForms}
 use Rattle.calculus.specs.Run.{recordFrom, recordOf, Tally, tally, run, listedForms, AgreesRecord, SatisfiesForm}
 use Rattle.calculus.specs.Reading.{parsed, read}
-use Rattle.calculus.specs.Calls.{Verdict, FORMS, FALSE, ended, over, call, modelNumber, model}
+use Rattle.calculus.specs.Calls.{Verdict, FORMS, FALSE, ended, over, call, recordRoot, modelNumber, model}
 use Rattle.calculus.specs.Demands.{Shape, Models, Verdicts}
 use Rattle.calculus.proofs.Bools.{and-i, clash, Each-app, Each-imp, Each-zip, Each-map}
 use Rattle.calculus.proofs.Walk.{walk-root}
@@ -32,7 +32,7 @@ use Rattle.calculus.proofs.Stepping.{step-fit, step-keeps, up-each}
 use Rattle.calculus.proofs.LogLaws.{Full}
 use Rattle.calculus.proofs.Start.{start-fit}
 use Rattle.calculus.proofs.ConstraintLaws.{constraints-in, holds-any}
-use Rattle.calculus.proofs.Solutions.{forms-full, model-both}
+use Rattle.calculus.proofs.Solutions.{forms-full, model-both, below-is}
 use Rattle.calculus.proofs.Records.{record-length, root-byte, in-byte, out-byte, agrees-says}
 use Rattle.calculus.proofs.ReadingLaws.{read-accepted}
 use Rattle.calculus.proofs.CallLaws.{records-long, listed-app, was, same-solutions}
@@ -48,8 +48,8 @@ module _ (prob : Problem) (acc : Accepted prob) where
   abbrev N : ℕ
   N = termCount prob
 
-  abbrev K : ℕ
-  K = length (prob .constants)
+  abbrev K : List ℕ
+  K = constantTerms prob
 
   abbrev M : ℕ
   M = prob .sets
@@ -74,7 +74,7 @@ module _ (prob : Problem) (acc : Accepted prob) where
 
 -- ---- a record read back
 
-module _ (n k m : ℕ) (b : Branch) (F : WellFormed n k b) where
+module _ (n : ℕ) (k : List ℕ) (m : ℕ) (b : Branch) (F : WellFormed n k b) where
   abbrev r : List ℕ
   r = recordOf n b
 
@@ -126,17 +126,20 @@ map-keep f g p (x ∷ xs) h = go (p x) refl (map-keep f g p xs h)
     go true u ih = rw u (ap₂ (λ (a : ℤ) (l : List ℤ). a ∷ l) (h x u) ih)
     go false u ih = rw u ih
 
-module _ (prob : Problem) (acc : Accepted prob) (b : Branch) (F : Full (termCount prob) (length (prob .constants)) (prob .sets) (prob .constraints) (constraints-in prob acc) b) (small : Small (prob .sets) b) where
+module _ (prob : Problem) (acc : Accepted prob) (b : Branch) (F : Full (termCount prob) (constantTerms prob) (prob .sets) (prob .constraints) (constraints-in prob acc) b) (small : Small (prob .sets) b) where
   abbrev B : List ℕ
   B = recordOf (termCount prob) b
 
-  numbers-are : (λ (t : ℕ). classValue prob (rootAt b t)) ≡ modelNumber prob B
-  numbers-are = fun-ext (λ t. ap (classValue prob) (sym (anywhere (termCount prob) (length (prob .constants)) (prob .sets) b (F .0) t)))
+  roots-are : recordRoot B ≡ rootAt b
+  roots-are = fun-ext (λ t. anywhere (termCount prob) (constantTerms prob) (prob .sets) b (F .0) t)
+
+  numbers-are : (λ (t : ℕ). classValue prob (rootAt b) (rootAt b t)) ≡ modelNumber prob B
+  numbers-are = ap {B = ℕ → ℤ} (λ (ρ : ℕ → ℕ) (t : ℕ). classValue prob ρ (ρ t)) (sym roots-are)
 
   both? : ℕ → ℕ → Bool
   both? A t = eqb (getD B (3 * t) 0) t && bit (getD B (3 * t + 1) 0) A
 
-  members-are : (A : ℕ) → map (classValue prob) (keep (λ h. insideAt b h A) (rootsOf (termCount prob) b)) ≡ map (modelNumber prob B) (keep (λ t. eqb (getD B (3 * t) 0) t && bit (getD B (3 * t + 1) 0) A) (upFrom 0 (termCount prob)))
+  members-are : (A : ℕ) → map (classValue prob (rootAt b)) (keep (λ h. insideAt b h A) (rootsOf (termCount prob) b)) ≡ map (modelNumber prob B) (keep (λ t. eqb (getD B (3 * t) 0) t && bit (getD B (3 * t + 1) 0) A) (upFrom 0 (termCount prob)))
   unfolding insideAt
   members-are A =
       let e : keep (λ t. eqb (getD B (3 * t) 0) t && bit (getD B (3 * t + 1) 0) A) (upFrom 0 (termCount prob)) ≡ keep (λ h. bit (getD (b .insides) h 0) A) (keep (λ t. eqb (rootAt b t) t) (upFrom 0 (termCount prob)))
@@ -148,17 +151,17 @@ module _ (prob : Problem) (acc : Accepted prob) (b : Branch) (F : Full (termCoun
       same t l = go (eqb (rootAt b t) t) refl
         where
           go : (c : Bool) → eqb (rootAt b t) t ≡ c → (eqb (getD B (3 * t) 0) t && bit (getD B (3 * t + 1) 0) A) ≡ (eqb (rootAt b t) t && bit (getD (b .insides) t 0) A)
-          go true q = rw (at-root (termCount prob) (length (prob .constants)) (prob .sets) b (F .0) t l, q, at-in (termCount prob) (length (prob .constants)) (prob .sets) b (F .0) t l, eqb-true (rootAt b t) t q)
-          go false q = rw (at-root (termCount prob) (length (prob .constants)) (prob .sets) b (F .0) t l, q)
+          go true q = rw (at-root (termCount prob) (constantTerms prob) (prob .sets) b (F .0) t l, q, at-in (termCount prob) (constantTerms prob) (prob .sets) b (F .0) t l, eqb-true (rootAt b t) t q)
+          go false q = rw (at-root (termCount prob) (constantTerms prob) (prob .sets) b (F .0) t l, q)
 
-      map-kept : (xs : List ℕ) → map (modelNumber prob B) (keep (λ h. bit (getD (b .insides) h 0) A) (keep (λ t. eqb (rootAt b t) t) xs)) ≡ map (classValue prob) (keep (λ h. bit (getD (b .insides) h 0) A) (keep (λ t. eqb (rootAt b t) t) xs))
+      map-kept : (xs : List ℕ) → map (modelNumber prob B) (keep (λ h. bit (getD (b .insides) h 0) A) (keep (λ t. eqb (rootAt b t) t) xs)) ≡ map (classValue prob (rootAt b)) (keep (λ h. bit (getD (b .insides) h 0) A) (keep (λ t. eqb (rootAt b t) t) xs))
       map-kept [] = refl
       map-kept (x ∷ xs) = go (eqb (rootAt b x) x) (bit (getD (b .insides) x 0) A) refl refl (map-kept xs)
         where
           go : (c d : Bool) → eqb (rootAt b x) x ≡ c → bit (getD (b .insides) x 0) A ≡ d
-              → map (modelNumber prob B) (keep (λ h. bit (getD (b .insides) h 0) A) (keep (λ t. eqb (rootAt b t) t) xs)) ≡ map (classValue prob) (keep (λ h. bit (getD (b .insides) h 0) A) (keep (λ t. eqb (rootAt b t) t) xs))
-              → map (modelNumber prob B) (keep (λ h. bit (getD (b .insides) h 0) A) (keep (λ t. eqb (rootAt b t) t) (x ∷ xs))) ≡ map (classValue prob) (keep (λ h. bit (getD (b .insides) h 0) A) (keep (λ t. eqb (rootAt b t) t) (x ∷ xs)))
-          go true true u v ih = rw (u, v) (ap₂ (λ (a : ℤ) (l : List ℤ). a ∷ l) (ap (classValue prob) (anywhere (termCount prob) (length (prob .constants)) (prob .sets) b (F .0) x ∙ eqb-true (rootAt b x) x u)) ih)
+              → map (modelNumber prob B) (keep (λ h. bit (getD (b .insides) h 0) A) (keep (λ t. eqb (rootAt b t) t) xs)) ≡ map (classValue prob (rootAt b)) (keep (λ h. bit (getD (b .insides) h 0) A) (keep (λ t. eqb (rootAt b t) t) xs))
+              → map (modelNumber prob B) (keep (λ h. bit (getD (b .insides) h 0) A) (keep (λ t. eqb (rootAt b t) t) (x ∷ xs))) ≡ map (classValue prob (rootAt b)) (keep (λ h. bit (getD (b .insides) h 0) A) (keep (λ t. eqb (rootAt b t) t) (x ∷ xs)))
+          go true true u v ih = rw (u, v) (ap₂ (λ (a : ℤ) (l : List ℤ). a ∷ l) (ap (λ (ρ : ℕ → ℕ). classValue prob ρ (ρ x)) roots-are ∙ ap (classValue prob (rootAt b)) (eqb-true (rootAt b x) x u)) ih)
           go true false u v ih = rw (u, v) ih
           go false d u v ih = rw u ih
 
@@ -169,7 +172,7 @@ module _ (prob : Problem) (acc : Accepted prob) (b : Branch) (F : Full (termCoun
   unfolding insideAt outsideAt
   shape =
       let n : ℕ = termCount prob in
-      let k : ℕ = length (prob .constants) in
+      let k : List ℕ = constantTerms prob in
       let m : ℕ = prob .sets in
       let hd = at-root n k m b (F .0) in
       let hi = at-in n k m b (F .0) in
@@ -179,7 +182,7 @@ module _ (prob : Problem) (acc : Accepted prob) (b : Branch) (F : Full (termCoun
         long = record-length b n 0;
         lowest = λ t u lt lu e. omega (arith, e, hd u lu, below n k b (F .0) u);
         own = λ t l. rw (hd t l) (hd (rootAt b t) (un t l) ∙ still n k b (F .0) t);
-        constants = λ t l. hd t (omega arith) ∙ F .0 .fixed t l;
+        constants = λ i j p q e. F .0 .lone i j (below-is (length (prob .constants)) i p) (below-is (length (prob .constants)) j q) (sym (hd i (omega arith)) ∙ e ∙ hd j (omega arith));
         shows = λ t l. (
           rw (hd t l) (hi t l ∙ sym (hi (rootAt b t) (un t l) ∙ ap (λ (x : ℕ). getD (b .insides) x 0) (still n k b (F .0) t))),
           rw (hd t l) (ho t l ∙ sym (ho (rootAt b t) (un t l) ∙ ap (λ (x : ℕ). getD (b .outsides) x 0) (still n k b (F .0) t))),
@@ -195,11 +198,11 @@ module _ (prob : Problem) (acc : Accepted prob) (b : Branch) (F : Full (termCoun
   model-true : Satisfies prob (model prob B) × AgreesRecord (termCount prob) (values prob (model prob B) (modelNumber prob B)) B × Shape prob B
   model-true =
       let w = model-both prob acc b F in
-      let meets : Satisfies prob (branchModel prob b) = Each-zip (Names prob) (Holds (values prob (branchModel prob b) (λ t. classValue prob (rootAt b t)))) (Holds (values prob (branchModel prob b) (λ _. pos 0))) (prob .constraints)
-      (λ l a q. holds-any prob acc (branchModel prob b) (λ t. classValue prob (rootAt b t)) (λ _. pos 0) l a q) (acc .variables) (w .1) in
-      let factOf : AgreesRecord (termCount prob) (values prob (branchModel prob b) (λ t. classValue prob (rootAt b t))) B = agrees-says (termCount prob) (values prob (branchModel prob b) (λ t. classValue prob (rootAt b t))) b (w .0) in (
+      let meets : Satisfies prob (branchModel prob b) = Each-zip (Names prob) (Holds (values prob (branchModel prob b) (λ t. classValue prob (rootAt b) (rootAt b t)))) (Holds (values prob (branchModel prob b) (λ _. pos 0))) (prob .constraints)
+      (λ l a q. holds-any prob acc (branchModel prob b) (λ t. classValue prob (rootAt b) (rootAt b t)) (λ _. pos 0) l a q) (acc .variables) (w .1) in
+      let factOf : AgreesRecord (termCount prob) (values prob (branchModel prob b) (λ t. classValue prob (rootAt b) (rootAt b t))) B = agrees-says (termCount prob) (values prob (branchModel prob b) (λ t. classValue prob (rootAt b) (rootAt b t))) b (w .0) in (
         subst (Satisfies prob) settings-are meets,
-        subst (λ (f : ℕ → ℤ). AgreesRecord (termCount prob) (values prob (model prob B) f) B) numbers-are (subst (λ (g : Assignment). AgreesRecord (termCount prob) (values prob g (λ t. classValue prob (rootAt b t))) B) settings-are factOf),
+        subst (λ (f : ℕ → ℤ). AgreesRecord (termCount prob) (values prob (model prob B) f) B) numbers-are (subst (λ (g : Assignment). AgreesRecord (termCount prob) (values prob g (λ t. classValue prob (rootAt b) (rootAt b t))) B) settings-are factOf),
         shape,
       )
 
@@ -228,13 +231,13 @@ models bytes budget forms trace prob e v n c a =
     let w = was bytes budget forms trace prob e v n c a in
     let acc = read-accepted bytes prob e in
     let s : Tally = run prob budget (length forms) in
-    let L : List Event = log (termCount prob) (length (prob .constants)) (prob .constraints) (termCount prob * suc (prob .sets)) (start (termCount prob)) in
+    let L : List Event = log (termCount prob) (constantTerms prob) (prob .constraints) (termCount prob * suc (prob .sets)) (start (termCount prob)) in
     let z : listedForms (3 * termCount prob) c (call bytes budget forms trace .forms) ≡ map (recordOf (termCount prob)) (take (s .forms) (formsOf L))
     = rw (w .forms-are, sym (w .count-is)) (listed-app (3 * termCount prob) (s .forms) (s .records) (drop (length (s .records)) forms) (records-long (termCount prob) L budget (length forms)) ∙ lists (termCount prob) L budget (length forms)) in
     subst (Each Fine) (sym z)
     (Each-map Fine (recordOf (termCount prob)) (take (s .forms) (formsOf L))
     (each-take (λ b. Fine (recordOf (termCount prob) b)) (s .forms) (formsOf L)
-    (Each-zip (Full (termCount prob) (length (prob .constants)) (prob .sets) (prob .constraints) (constraints-in prob acc)) (Small (prob .sets)) (λ b. Fine (recordOf (termCount prob) b)) (formsOf L) (λ b F m. model-true prob acc b F m) (forms-full prob acc) (forms-small prob acc))))
+    (Each-zip (Full (termCount prob) (constantTerms prob) (prob .sets) (prob .constraints) (constraints-in prob acc)) (Small (prob .sets)) (λ b. Fine (recordOf (termCount prob) b)) (formsOf L) (λ b F m. model-true prob acc b F m) (forms-full prob acc) (forms-small prob acc))))
   where
     Fine : List ℕ → Type 0
     Fine r = Satisfies prob (model prob r) × AgreesRecord (termCount prob) (values prob (model prob r) (modelNumber prob r)) r × Shape prob r

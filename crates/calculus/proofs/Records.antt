@@ -13,7 +13,7 @@ use Rattle.calculus.specs.Lists.{bit, Each, Some, here, there, gather}
 use Rattle.calculus.specs.Meaning.{_∈_, Valuation, Holds}
 use Rattle.calculus.specs.Branch.{Branch, start, rootAt, insideAt, outsideAt}
 use Rattle.calculus.specs.Log.{Event, formed, stepped, log, formsOf}
-use Rattle.calculus.specs.Problem.{Problem, termCount, Assignment, values, Satisfies, SatisfiesBranch, AgreesBranch, problemForms, Accepted}
+use Rattle.calculus.specs.Problem.{Problem, termCount, constantTerms, Assignment, values, Satisfies, SatisfiesBranch, AgreesBranch, problemForms, Accepted}
 use Rattle.calculus.specs.Run.{recordFrom, recordOf, End, DONE, SPENT, NOROOM, Tally, stop, listForm, takeStep, tally, run, listedForms, AgreesRecord, SatisfiesForm}
 use Rattle.calculus.proofs.Solutions.{solutions}
 
@@ -113,7 +113,7 @@ module _ (prob : Problem) (g : Assignment) where
 pub run-solutions : (prob : Problem) → Accepted prob → (budget room : ℕ) → run prob budget room .end ≡ DONE → (g : Assignment)
     → Satisfies prob g ↔ Some (SatisfiesForm prob g) (listedForms (3 * termCount prob) (run prob budget room .forms) (run prob budget room .records))
 run-solutions prob acc budget room e g =
-    let es : List Event = log (termCount prob) (length (prob .constants)) (prob .constraints) (termCount prob * suc (prob .sets)) (start (termCount prob)) in
+    let es : List Event = log (termCount prob) (constantTerms prob) (prob .constraints) (termCount prob * suc (prob .sets)) (start (termCount prob)) in
     let d = done-all (termCount prob) es budget room e in
     let rs : List (List ℕ) = map (recordOf (termCount prob)) (problemForms prob) in
     let z : rs ≡ listedForms (3 * termCount prob) (run prob budget room .forms) (run prob budget room .records) = sym (rw (d .0, d .1) (listed-merge (3 * termCount prob) rs (sizes (termCount prob) (problemForms prob)))) in (

@@ -115,7 +115,7 @@ module _ (v : Valuation) where
   lists-sound b hs A es g = Each-map (λ (p : ℕ × Move). Sound (p .1)) (λ (e : ℕ). (rootAt b e, propagation 19 [] (In e A))) es
       (Each-imp (λ e. truth v (In e A) ≡ true) (λ e. Sound (propagation 19 [] (In e A))) es (λ e q. propagations-sure 19 [] (In e A) q) (in-all A es (λ x. g x .1)))
 
-  module _ (b : Branch) (n k : ℕ) (F : WellFormed n k b) (s : Sat v b) where
+  module _ (b : Branch) (n : ℕ) (k : List ℕ) (F : WellFormed n k b) (s : Sat v b) where
     -- an entry with the value, and its root
     in-entries : (x : ℤ) (es : List ℕ) → x ∈ map (v .num) es → any (λ g. eqZ x (v .num g)) (map (rootAt b) es) ≡ true
     in-entries x [] h = absurd h
@@ -158,6 +158,12 @@ module _ (v : Valuation) where
 
     chooses-sound : (hs : List ℕ) (A : ℕ) (es : List ℕ) → Lists v A es → Each (λ (p : ℕ × Move). Sound (p .1)) (chooses hs b A es)
     chooses-sound hs A es g = Each-map (λ (p : ℕ × Move). Sound (p .1)) (λ (h : ℕ). (h, choose hs b A es h)) hs (Each-all (λ h. Sound (choose hs b A es h)) (choose-sound hs A es g) hs)
+
+    -- rule 30
+    one-of : (t : ℕ) (es : List ℕ) → v .num t ∈ map (v .num) es → any (all (truth v)) (map (λ (e : ℕ). Same t e ∷ []) es) ≡ true
+    one-of t [] m = absurd m
+    one-of t (e ∷ es) (inl q) = or-l (any (all (truth v)) (map (λ (e : ℕ). Same t e ∷ []) es)) (and-i (eq-eqZ (v .num t) (v .num e) q) refl)
+    one-of t (e ∷ es) (inr m) = or-r (truth v (Same t e) && true) (one-of t es m)
 
     module _ (hs : List ℕ) where
       pub propagations-sound : (l : Constraint) → Good v l → Each (λ (p : ℕ × Move). Sound (p .1)) (propagations hs b l)

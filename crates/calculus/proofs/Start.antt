@@ -52,14 +52,14 @@ pub start-outside : (n h A : ℕ) → outsideAt (start n) h A ≡ false
 unfolding start outsideAt
 start-outside n h A = ap (λ (m : ℕ). bit m A) (zeros n h) ∙ bit-zero A
 
-pub start-fit : (n k : ℕ) → WellFormed n k (start n)
+pub start-fit : (n : ℕ) (k : List ℕ) → WellFormed n k (start n)
 unfolding start
 start-fit n k = record {
   sized = up-length 0 n;
   sized-in = length-replicate n 0;
   sized-out = length-replicate n 0;
   falls = λ t. rw (up-getD 0 n t t (omega arith)) (le-refl t);
-  fixed = λ i _. start-root n i;
+  lone = λ i j _ _ e. sym (start-root n i) ∙ e ∙ start-root n j;
   clean = λ h A. rw (start-inside n h A);
 }
 
@@ -73,7 +73,7 @@ start-measure n m = sum-const n (suc m) (weight m (start n))
     (λ t l. rw (eq-eqb (rootAt (start n) t) t (start-root n t)) (ap suc (sum-const m 1 (open? (start n) t) (λ A q. rw (start-inside n t A, start-outside n t A)) ∙ mul-one m)))
 
 -- values satisfy a branch exactly where its joins and facts are true of them
-module _ (n k : ℕ) (v : Valuation) (b : Branch) (F : WellFormed n k b) where
+module _ (n : ℕ) (k : List ℕ) (v : Valuation) (b : Branch) (F : WellFormed n k b) where
   pub sat-agrees : Sat v b → AgreesBranch n v b
   sat-agrees s = record {
     merges = λ t _. same-num v b s t (rootAt b t) (sym (still n k b F t));

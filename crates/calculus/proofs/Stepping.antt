@@ -104,7 +104,7 @@ module _ (n : ℕ) (ls : List Constraint) (b : Branch) (Q : Move → Type 0) whe
 
 -- ---- the step
 
-module _ (n k m : ℕ) (ls : List Constraint) (li : Each (ConstraintIn n m) ls) (b : Branch) (F : WellFormed n k b) where
+module _ (n : ℕ) (k : List ℕ) (m : ℕ) (ls : List Constraint) (li : Each (ConstraintIn n m) ls) (b : Branch) (F : WellFormed n k b) where
   hn : Each (λ h. h < n) (rootsOf n b)
   hn = Each-imp (IsHead n b) (λ h. h < n) (rootsOf n b) (λ h q. q .0) (roots-each n b)
 

@@ -7,7 +7,7 @@ use Prim.Native.Nat.{ℕ, zero, suc, _+_, _<_, _≤_}
 use lib.Dec.{eqb}
 use lib.IntN.{ℤ, pos, negsuc}
 use borrow.Author.Tests.{eqb-true, eqb-false, eq-eqb, ne-eqb}
-use Rattle.calculus.specs.Lists.{imp, all, any}
+use Rattle.calculus.specs.Lists.{imp, all, any, Some, here, there}
 use Rattle.calculus.specs.Relations.{Relation, equal, union, disjoint, subset, intersection, holdsAt, Negation, unequal, denies}
 use Rattle.calculus.specs.Meaning.{_∈_, Valuation, PointMeans, Relates}
 pub use Rattle.calculus.specs.Check.{eqZ, has}
@@ -111,6 +111,22 @@ truth v (Same t u) = eqZ (v .num t) (v .num u)
 abbrev pub Sat : Valuation → Branch → Type 0
 Sat v b = (f : Fact) → known b f ≡ true → truth v f ≡ true
 
--- the first k terms have different values
-abbrev pub Distinct : ℕ → Valuation → Type 0
-Distinct k v = (i j : ℕ) → i < k → j < k → v .num i ≡ v .num j → i ≡ j
+-- i is one of the constants' terms k
+abbrev pub Is : List ℕ → ℕ → Type 0
+Is k i = any (λ (j : ℕ). eqb j i) k ≡ true
+
+-- different constants have different values
+abbrev pub Distinct : List ℕ → Valuation → Type 0
+Distinct k v = (i j : ℕ) → Is k i → Is k j → v .num i ≡ v .num j → i ≡ j
+
+pub is-some : (k : List ℕ) (i : ℕ) → Is k i → Some (λ x. x ≡ i) k
+is-some [] i e = absurd (false≢true e)
+is-some (j ∷ k) i e = go (or-cases (eqb j i) (any (λ (j : ℕ). eqb j i) k) e) (is-some k i)
+  where
+    go : (eqb j i ≡ true) ⊎ (any (λ (j : ℕ). eqb j i) k ≡ true) → (any (λ (j : ℕ). eqb j i) k ≡ true → Some (λ x. x ≡ i) k) → Some (λ x. x ≡ i) (j ∷ k)
+    go (inl q) ih = here (eqb-true j i q)
+    go (inr q) ih = there (ih q)
+
+pub some-is : (k : List ℕ) (i : ℕ) → Some (λ x. x ≡ i) k → Is k i
+some-is k i (here {x = j} {xs = js} e) = or-l (any (λ (j : ℕ). eqb j i) js) (eq-eqb j i e)
+some-is k i (there {x = j} {xs = js} s) = or-r (eqb j i) (some-is js i s)

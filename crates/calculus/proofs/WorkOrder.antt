@@ -13,7 +13,7 @@ use Rattle.calculus.specs.Lists.{Each, Some, here, there, gather}
 use Rattle.calculus.specs.Branch.{Branch, start}
 use Rattle.calculus.specs.Search.{Next, solved, step, next}
 use Rattle.calculus.specs.Log.{Event, formed, stepped, log}
-use Rattle.calculus.specs.Problem.{Problem, termCount, Accepted}
+use Rattle.calculus.specs.Problem.{Problem, termCount, constantTerms, Accepted}
 use Rattle.calculus.specs.Run.{recordOf, Tally, stop, listForm, takeStep, tally, run}
 use Rattle.calculus.specs.Run as R
 use Rattle.calculus.specs.Reading.{parsed, read}
@@ -38,8 +38,8 @@ module _ (prob : Problem) (acc : Accepted prob) where
   abbrev N : ℕ
   N = termCount prob
 
-  abbrev K : ℕ
-  K = length (prob .constants)
+  abbrev K : List ℕ
+  K = constantTerms prob
 
   abbrev M : ℕ
   M = prob .sets
@@ -160,30 +160,30 @@ module _ (prob : Problem) (acc : Accepted prob) (budget room : ℕ) where
       go (c ∷ ds) z = (i .0, stepping (e ∙ ap (step r) z) more (subst (λ (ds : List Branch). Works prob budget room (map (λ c. (suc d, c)) ds ++ left) (withStep s r) (verdictOf (tally (termCount prob) l q es .end) (s .forms + tally (termCount prob) l q es .forms)) (plus s (takeStep r (tally (termCount prob) l q es))) (i .0)) z j), i .2)
 
   -- the children of a list, each by its own log
-  runs-all : (fuel d : ℕ) → ((b : Branch) → At prob acc d b → measure (termCount prob) (prob .sets) b ≤ fuel → (left : List (ℕ × Branch)) (es : List Event) → Runs left es → Runs ((d, b) ∷ left) (log (termCount prob) (length (prob .constants)) (prob .constraints) fuel b ++ es))
+  runs-all : (fuel d : ℕ) → ((b : Branch) → At prob acc d b → measure (termCount prob) (prob .sets) b ≤ fuel → (left : List (ℕ × Branch)) (es : List Event) → Runs left es → Runs ((d, b) ∷ left) (log (termCount prob) (constantTerms prob) (prob .constraints) fuel b ++ es))
       → (cs : List Branch) → Each (λ c. At prob acc d c × (measure (termCount prob) (prob .sets) c ≤ fuel)) cs → (left : List (ℕ × Branch)) (es : List Event) → Runs left es
-      → Runs (map (λ c. (d, c)) cs ++ left) (gather (log (termCount prob) (length (prob .constants)) (prob .constraints) fuel) cs ++ es)
+      → Runs (map (λ c. (d, c)) cs ++ left) (gather (log (termCount prob) (constantTerms prob) (prob .constraints) fuel) cs ++ es)
   runs-all fuel d h [] a left es g = g
   runs-all fuel d h (c ∷ cs) a left es g =
-      let L : Branch → List Event = log (termCount prob) (length (prob .constants)) (prob .constraints) fuel in
+      let L : Branch → List Event = log (termCount prob) (constantTerms prob) (prob .constraints) fuel in
       rw (append-assoc (L c) (gather L cs) es) (h c (a .0 .0) (a .0 .1) (map (λ c. (d, c)) cs ++ left) (gather L cs ++ es) (runs-all fuel d h cs (a .1) left es g))
 
   runs-log : (fuel d : ℕ) (b : Branch) → At prob acc d b → measure (termCount prob) (prob .sets) b ≤ fuel → (left : List (ℕ × Branch)) (es : List Event) → Runs left es
-      → Runs ((d, b) ∷ left) (log (termCount prob) (length (prob .constants)) (prob .constraints) fuel b ++ es)
-  runs-log zero d b a l left es g = runs-solved d b (omega (arith, a .1)) (at-zero (termCount prob) (length (prob .constants)) (prob .sets) (prob .constraints) (constraints-in prob acc) b (a .0) l) left es g
+      → Runs ((d, b) ∷ left) (log (termCount prob) (constantTerms prob) (prob .constraints) fuel b ++ es)
+  runs-log zero d b a l left es g = runs-solved d b (omega (arith, a .1)) (at-zero (termCount prob) (constantTerms prob) (prob .sets) (prob .constraints) (constraints-in prob acc) b (a .0) l) left es g
   runs-log (suc fuel) d b a l left es g = go (nextOf prob b) refl (runs-log fuel (suc d))
     where
-      go : (x : Next) → nextOf prob b ≡ x → ((c : Branch) → At prob acc (suc d) c → measure (termCount prob) (prob .sets) c ≤ fuel → (left : List (ℕ × Branch)) (es : List Event) → Runs left es → Runs ((suc d, c) ∷ left) (log (termCount prob) (length (prob .constants)) (prob .constraints) fuel c ++ es))
-          → Runs ((d, b) ∷ left) (log (termCount prob) (length (prob .constants)) (prob .constraints) (suc fuel) b ++ es)
+      go : (x : Next) → nextOf prob b ≡ x → ((c : Branch) → At prob acc (suc d) c → measure (termCount prob) (prob .sets) c ≤ fuel → (left : List (ℕ × Branch)) (es : List Event) → Runs left es → Runs ((suc d, c) ∷ left) (log (termCount prob) (constantTerms prob) (prob .constraints) fuel c ++ es))
+          → Runs ((d, b) ∷ left) (log (termCount prob) (constantTerms prob) (prob .constraints) (suc fuel) b ++ es)
       go solved q ih = rw (q, log) (runs-solved d b (omega (arith, a .1)) q left es g)
       go (step r cs) q ih = rw (q, log)
-          (runs-step d b (omega (arith, a .1, some-left prob acc b (a .0) r cs q)) r cs q left (gather (log (termCount prob) (length (prob .constants)) (prob .constraints) fuel) cs ++ es)
+          (runs-step d b (omega (arith, a .1, some-left prob acc b (a .0) r cs q)) r cs q left (gather (log (termCount prob) (constantTerms prob) (prob .constraints) fuel) cs ++ es)
           (runs-all fuel (suc d) ih cs (Each-imp (λ c. At prob acc (suc d) c × (measure (termCount prob) (prob .sets) c < measure (termCount prob) (prob .sets) b)) (λ c. At prob acc (suc d) c × (measure (termCount prob) (prob .sets) c ≤ fuel)) cs (λ c z. (z .0, omega (arith, z .1))) (at-step prob acc d b a r cs q)) left es g))
 
   -- the whole run
   runs-whole : (s : Progress) → s .steps ≡ 0 → s .records ≡ [] → (ps : List ℕ) × Works prob budget room ((0, start (termCount prob)) ∷ []) s (verdictOf (run prob budget room .end) (s .forms + run prob budget room .forms)) (plus s (run prob budget room)) ps × Each (λ d. d ≤ bound prob acc) ps
   runs-whole s e f =
-      let L : List Event = log (termCount prob) (length (prob .constants)) (prob .constraints) (termCount prob * suc (prob .sets)) (start (termCount prob)) in
+      let L : List Event = log (termCount prob) (constantTerms prob) (prob .constraints) (termCount prob * suc (prob .sets)) (start (termCount prob)) in
       let g = runs-log (termCount prob * suc (prob .sets)) 0 (start (termCount prob)) (at-start prob acc) (le-of-eq (start-measure (termCount prob) (prob .sets))) [] [] runs-end s budget room (omega arith) (ap (λ (x : List ℕ). length x + room) f ∙ omega arith) in
       subst (λ (es : List Event). (ps : List ℕ) × Works prob budget room ((0, start (termCount prob)) ∷ []) s (verdictOf (tally (termCount prob) budget room es .end) (s .forms + tally (termCount prob) budget room es .forms)) (plus s (tally (termCount prob) budget room es)) ps × Each (λ d. d ≤ bound prob acc) ps) (append-nil L) g
 

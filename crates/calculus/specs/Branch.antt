@@ -67,16 +67,19 @@ abbrev pub conflictIf : Bool → Branch → Option Branch
 conflictIf true b = none
 conflictIf false b = some b
 
--- the classes of roots lo < hi united; k is the count of constants
-abbrev pub mergeRoots : ℕ → Branch → ℕ → ℕ → Option Branch
-mergeRoots k b lo hi = conflictIf (ltb hi k || torn (merge b lo hi) lo) (merge b lo hi)
+-- the class of h holds a constant; k are the constants' terms
+abbrev pub owns : List ℕ → Branch → ℕ → Bool
+owns k b h = any (λ (i : ℕ). eqb (rootAt b i) h) k
+
+abbrev pub mergeRoots : List ℕ → Branch → ℕ → ℕ → Option Branch
+mergeRoots k b lo hi = conflictIf ((owns k b lo && owns k b hi) || torn (merge b lo hi) lo) (merge b lo hi)
 
 -- asserting a fact: the branch as it then is, or none if it conflicts
-abbrev pub assert : ℕ → Branch → Fact → Option Branch
+abbrev pub assert : List ℕ → Branch → Fact → Option Branch
 assert k b (In t A) = conflictIf (known b (Out t A)) (addInside b (rootAt b t) A)
 assert k b (Out t A) = conflictIf (known b (In t A)) (addOutside b (rootAt b t) A)
 assert k b (Same t u) = cond (eqb (rootAt b t) (rootAt b u)) (some b) (mergeRoots k b (min (rootAt b t) (rootAt b u)) (max (rootAt b t) (rootAt b u)))
 
-abbrev pub assertAll : ℕ → Branch → List Fact → Option Branch
+abbrev pub assertAll : List ℕ → Branch → List Fact → Option Branch
 assertAll k b [] = some b
 assertAll k b (f ∷ fs) = elim (assert k b f) [ none ↦ none | some c ↦ assertAll k c fs ]

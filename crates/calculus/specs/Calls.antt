@@ -60,8 +60,12 @@ unfoldable pub call : List ℕ → ℕ → List ℕ → List ℕ → Outcome
 call bytes budget forms trace = answered budget forms trace (asked bytes budget (length trace))
 
 -- ---- a form's model, read off its record: a number for every term (its class's), and for each set the numbers of the roots whose in-mask has it
+-- the root that a record gives term t
+abbrev pub recordRoot : List ℕ → ℕ → ℕ
+recordRoot r t = getD r (3 * t) t
+
 abbrev pub modelNumber : Problem → List ℕ → ℕ → ℤ
-modelNumber prob r t = classValue prob (getD r (3 * t) t)
+modelNumber prob r t = classValue prob (recordRoot r) (recordRoot r t)
 
 abbrev pub model : Problem → List ℕ → Assignment
 model prob r = record {

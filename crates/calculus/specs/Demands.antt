@@ -12,7 +12,7 @@ use Rattle.calculus.specs.Lists.{Each, Some, gather, picked, bit}
 use Rattle.calculus.specs.Meaning.{Constraint, member, _∈_, Valuation, Holds}
 use Rattle.calculus.specs.Branch.{Branch, start, rootAt, Fact, In, Out, Same, known, assert, assertAll}
 use Rattle.calculus.specs.Search.{Next, solved, step}
-use Rattle.calculus.specs.Problem.{Problem, termCount, Assignment, values, Satisfies, Rising}
+use Rattle.calculus.specs.Problem.{Problem, termCount, constantTerms, Assignment, values, Satisfies, Rising}
 use Rattle.calculus.specs.Run.{listedForms, AgreesRecord, SatisfiesForm}
 use Rattle.calculus.specs.Reading.{Parsed, parsed, refused, read}
 use Rattle.calculus.specs.Calls.{Verdict, FORMS, FALSE, SPENT, NOROOM, Answer, refusal, ended, Outcome, asked, call, modelNumber, model, Checked, declined, HOLDS, FAILS, readAssignment, assignmentOf, check}
@@ -82,11 +82,11 @@ FirstPlace = (bytes : List ℕ) (prob : Problem) → read bytes ≡ parsed prob 
     × ((r : List ℕ) (cs : List Branch) → nextOf prob b ≡ step r cs → (p : Place)
     × Enabled prob b p × ((q : Place) → Enabled prob b q → ¬ Before q p)
     × (r ≡ p .rule ∷ p .constraint ∷ p .concerned ∷ length cs ∷ [])
-    × (cs ≡ picked (assertAll (length (prob .constants)) b) (p .alternatives)))
+    × (cs ≡ picked (assertAll (constantTerms prob) b) (p .alternatives)))
 
 -- Asserting a fact, merging among them, gives the branch with that fact and what it unites, or says that it conflicts; a root is the lowest of its class.
 abbrev pub Asserts : Type 0
-Asserts = (n k m : ℕ) → k ≤ n → (b : Branch) → Reached n k m b →
+Asserts = (n : ℕ) (k : List ℕ) (m : ℕ) → Each (λ i. i < n) k → (b : Branch) → Reached n k m b →
     ((t : ℕ) → t < n → (rootAt b (rootAt b t) ≡ rootAt b t) × ((u : ℕ) → OneClass b t u → rootAt b t ≤ u))
     × ((f : Fact) → Of n m f →
     (assert k b f ≡ none ↔ Conflicts b n k f)
@@ -97,7 +97,7 @@ pub record Shape (prob : Problem) (r : List ℕ) : Type 0 where
   pub long : length r ≡ 3 * termCount prob
   pub lowest : (t u : ℕ) → t < termCount prob → u < termCount prob → getD r (3 * t) 0 ≡ getD r (3 * u) 0 → getD r (3 * t) 0 ≤ u
   pub own : (t : ℕ) → t < termCount prob → getD r (3 * getD r (3 * t) 0) 0 ≡ getD r (3 * t) 0
-  pub constants : (t : ℕ) → t < length (prob .constants) → getD r (3 * t) 0 ≡ t
+  pub constants : (i j : ℕ) → i < length (prob .constants) → j < length (prob .constants) → getD r (3 * i) 0 ≡ getD r (3 * j) 0 → i ≡ j
   pub shows : (t : ℕ) → t < termCount prob → (getD r (3 * t + 1) 0 ≡ getD r (3 * getD r (3 * t) 0 + 1) 0) × (getD r (3 * t + 2) 0 ≡ getD r (3 * getD r (3 * t) 0 + 2) 0)
   pub masks : (t : ℕ) → t < termCount prob → (getD r (3 * t + 1) 0 < 2 ^ prob .sets) × (getD r (3 * t + 2) 0 < 2 ^ prob .sets)
   pub clear : (t A : ℕ) → t < termCount prob → bit (getD r (3 * t + 1) 0) A ≡ true → bit (getD r (3 * t + 2) 0) A ≡ true → ⊥

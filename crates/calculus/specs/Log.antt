@@ -12,7 +12,7 @@ pub data Event : Type 0 where
   formed : Branch → Event
   stepped : List ℕ → Event
 
-module _ (n k : ℕ) (ls : List Constraint) where
+module _ (n : ℕ) (k : List ℕ) (ls : List Constraint) where
   -- the fuel bounds the length of a path
   abbrev pub log : ℕ → Branch → List Event
   log zero b = formed b ∷ []
@@ -39,5 +39,5 @@ formsOf (formed b ∷ es) = b ∷ formsOf es
 formsOf (stepped r ∷ es) = formsOf es
 
 -- the forms of n terms, k of them constants, m sets and these constraints
-abbrev pub forms : ℕ → ℕ → ℕ → List Constraint → List Branch
+abbrev pub forms : ℕ → List ℕ → ℕ → List Constraint → List Branch
 forms n k m ls = formsOf (log n k ls (n * suc m) (start n))

@@ -4,10 +4,11 @@ use mathlib.Core.Bool.{Bool, true, false, cond}
 use mathlib.Core.List.{List, [], _∷_, _++_, map}
 use Prim.Native.Nat.{ℕ, zero, suc, _+_, _-_, _<_}
 use lib.ListN.{length, getD}
-use lib.Dec.{ltb}
+use lib.Dec.{ltb, eqb}
+use mathlib.Core.Option.{Option, none, some}
 use lib.IntN.{ℤ, pos, negsuc}
 use lib.Signed.{_≤ℤ_, _<ℤ_}
-use Rattle.calculus.specs.Lists.{Each, keep}
+use Rattle.calculus.specs.Lists.{Each, keep, upFrom, first}
 use Rattle.calculus.specs.Relations.{Relation, equal, union, disjoint, subset, intersection, Negation, unequal, denies}
 use Rattle.calculus.specs.Meaning.{Constraint, member, nonmember, same, different, relation, negation, exactly, interval, _∈_, Valuation, Holds}
 use Rattle.calculus.specs.Branch.{Branch, rootAt, insideAt, outsideAt}
@@ -56,19 +57,25 @@ pub record AgreesBranch (n : ℕ) (v : Valuation) (b : Branch) : Type 0 where
 abbrev pub SatisfiesBranch : Problem → Assignment → Branch → Type 0
 SatisfiesBranch prob g b = (witness : ℕ → ℤ) × AgreesBranch (termCount prob) (values prob g witness) b × Each (Holds (values prob g witness)) (prob .constraints)
 
--- the model
-abbrev pub classValue : Problem → ℕ → ℤ
-classValue prob h = cond (ltb h (length (prob .constants))) (getD (prob .constants) h (pos 0)) (pos (32001 + h))
+-- the constants' terms
+abbrev pub constantTerms : Problem → List ℕ
+constantTerms prob = upFrom 0 (length (prob .constants))
+
+-- the model: a class has its constant's value, or 32,001 + its root
+abbrev pub valueBy : Problem → ℕ → Option ℕ → ℤ
+valueBy prob h (some i) = getD (prob .constants) i (pos 0)
+valueBy prob h none = pos (32001 + h)
+
+-- the value of the class whose root is h, where rootOf gives each term's root
+abbrev pub classValue : Problem → (ℕ → ℕ) → ℕ → ℤ
+classValue prob rootOf h = valueBy prob h (first (λ (i : ℕ). eqb (rootOf i) h) (constantTerms prob))
 
 abbrev pub branchModel : Problem → Branch → Assignment
-branchModel prob b = record {
-  number = λ i. classValue prob (rootAt b (length (prob .constants) + i));
-  members = λ A. map (classValue prob) (keep (λ h. insideAt b h A) (rootsOf (termCount prob) b));
-}
+branchModel prob b = record { number = λ i. classValue prob (rootAt b) (rootAt b (length (prob .constants) + i)); members = λ A. map (classValue prob (rootAt b)) (keep (λ h. insideAt b h A) (rootsOf (termCount prob) b)) }
 
 -- the problem's forms
 abbrev pub problemForms : Problem → List Branch
-problemForms prob = forms (termCount prob) (length (prob .constants)) (prob .sets) (prob .constraints)
+problemForms prob = forms (termCount prob) (constantTerms prob) (prob .sets) (prob .constraints)
 
 -- what the questions make sure of: constants rise and are at most 32,000; operands name terms and sets of the problem, the ends of a span and what is between them constants
 abbrev pub Rising : List ℤ → Type 0

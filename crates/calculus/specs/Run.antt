@@ -10,7 +10,7 @@ use Rattle.calculus.specs.Lists.{bit, Each, Some}
 use Rattle.calculus.specs.Meaning.{_∈_, Valuation, Holds}
 use Rattle.calculus.specs.Branch.{Branch, start, rootAt}
 use Rattle.calculus.specs.Log.{Event, formed, stepped, log}
-use Rattle.calculus.specs.Problem.{Problem, termCount, Assignment, values}
+use Rattle.calculus.specs.Problem.{Problem, termCount, constantTerms, Assignment, values}
 
 -- the record of a form, from term t on: root, in-mask and out-mask of each of n terms
 abbrev pub recordFrom : Branch → ℕ → ℕ → List ℕ
@@ -47,7 +47,7 @@ tally n zero room (stepped r ∷ es) = stop SPENT
 tally n (suc left) room (stepped r ∷ es) = takeStep r (tally n left room es)
 
 abbrev pub run : Problem → ℕ → ℕ → Tally
-run prob budget room = tally (termCount prob) budget room (log (termCount prob) (length (prob .constants)) (prob .constraints) (termCount prob * suc (prob .sets)) (start (termCount prob)))
+run prob budget room = tally (termCount prob) budget room (log (termCount prob) (constantTerms prob) (prob .constraints) (termCount prob * suc (prob .sets)) (start (termCount prob)))
 
 -- the listed records
 abbrev pub listedForms : ℕ → ℕ → List ℕ → List (List ℕ)

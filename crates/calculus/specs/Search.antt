@@ -98,13 +98,13 @@ pub data Next : Type 0 where
   step : List ℕ → List Branch → Next
 
 -- the children left
-abbrev pub children : ℕ → Branch → Move → List Branch
+abbrev pub children : List ℕ → Branch → Move → List Branch
 children k b m = picked (assertAll k b) (m .alternatives)
 
-abbrev pub stepped : ℕ → Branch → Option Candidate → Next
+abbrev pub stepped : List ℕ → Branch → Option Candidate → Next
 stepped k b none = solved
 stepped k b (some p) = step (p .move .rule ∷ p .constraint ∷ p .concerned ∷ length (children k b (p .move)) ∷ []) (children k b (p .move))
 
--- n terms, the first k of them constants
-abbrev pub next : ℕ → ℕ → List Constraint → Branch → Next
+-- n terms, k the constants among them
+abbrev pub next : ℕ → List ℕ → List Constraint → Branch → Next
 next n k ls b = stepped k b (first (λ (p : Candidate). applies (known b) (p .move)) (places n ls b))

@@ -13,7 +13,7 @@ use Rattle.calculus.specs.Relations.{Relation, equal, union, disjoint, s
 use Rattle.calculus.specs.Meaning.{Constraint, member, nonmember, same, different, relation, negation, exactly, interval, entries}
 use Rattle.calculus.specs.Branch.{Branch, start, rootAt, Fact, In, Out, Same, known, assert}
 use Rattle.calculus.specs.Search.{distinct, Next, solved, step, next}
-use Rattle.calculus.specs.Problem.{Problem, nameable, termCount, Rising, Names, Numbered}
+use Rattle.calculus.specs.Problem.{Problem, nameable, termCount, constantTerms, Rising, Names, Numbered}
 use Rattle.calculus.specs.Run.{recordOf}
 use Rattle.calculus.specs.Calls.{Verdict, FORMS, FALSE, SPENT, NOROOM}
 
@@ -86,9 +86,9 @@ module _ (b : Branch) where
   Then (Same s t) (Out u B) = KnownOut u B ⊎ ((OneClass u s ⊎ OneClass u t) × (KnownOut s B ⊎ KnownOut t B))
   Then (Same s t) (Same u x) = OneClass u x ⊎ ((OneClass u s ⊎ OneClass u t) × (OneClass x s ⊎ OneClass x t))
 
-  -- a class both in and out of one set, or two of the k constants in one class
-  abbrev pub Conflicts : ℕ → ℕ → Fact → Type 0
-  Conflicts n k f = ((u A : ℕ) × (u < n) × Then f (In u A) × Then f (Out u A)) ⊎ ((i j : ℕ) × (i < j) × (j < k) × Then f (Same i j))
+  -- a class both in and out of one set, or two of the constants k in one class
+  abbrev pub Conflicts : ℕ → List ℕ → Fact → Type 0
+  Conflicts n k f = ((u A : ℕ) × (u < n) × Then f (In u A) × Then f (Out u A)) ⊎ ((i j : ℕ) × Some (λ x. x ≡ i) k × Some (λ x. x ≡ j) k × (i ≢ j) × Then f (Same i j))
 
 -- a fact of n terms and m sets
 abbrev pub Of : ℕ → ℕ → Fact → Type 0
@@ -97,7 +97,7 @@ Of n m (Out t A) = (t < n) × (A < m)
 Of n m (Same t u) = (t < n) × (u < n)
 
 -- the branches that asserting leads to
-pub data Reached (n k m : ℕ) : Branch → Type 0 where
+pub data Reached (n : ℕ) (k : List ℕ) (m : ℕ) : Branch → Type 0 where
   begun : Reached n k m (start n)
   asserted : {b c : Branch} (f : Fact) → Reached n k m b → Of n m f → assert k b f ≡ some c → Reached n k m c
 
@@ -150,7 +150,7 @@ module _ (n : ℕ) (b : Branch) where
 
 module _ (prob : Problem) where
   abbrev pub nextOf : Branch → Next
-  nextOf b = next (termCount prob) (length (prob .constants)) (prob .constraints) b
+  nextOf b = next (termCount prob) (constantTerms prob) (prob .constraints) b
 
   abbrev pub Enabled : Branch → Place → Type 0
   Enabled b p = (p .constraint < length (prob .constraints)) × Fires (termCount prob) b (getD (prob .constraints) (p .constraint) (member 0 0)) (p .phase) (p .rule) (p .position) (p .concerned) (p .alternatives)
