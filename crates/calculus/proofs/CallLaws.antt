@@ -10,6 +10,7 @@ use lib.ListN.{length, length-append, take, drop, length-drop}
 use lib.Seq.{take-at, drop-at, take-append-le, drop-append-le}
 use lib.Dec.{leb}
 use borrow.Author.Tests.{leb-true, leb-false, le-leb, lt-leb, eq-eqb, eqb-true}
+use Rattle.calculus.specs.Terms.{Term}
 use Rattle.calculus.specs.Lists.{Each, Some, here, there, gather, first}
 use Rattle.calculus.specs.Relations.{applies, Negation, unequal, denies}
 use mathlib.Core.Option.{Option, none, some}
@@ -18,16 +19,17 @@ use Rattle.calculus.specs.Branch.{Branch, start, known}
 use Rattle.calculus.specs.Search as Ru
 use Rattle.calculus.specs.Search.{Candidate, Next, solved, step, children, next, places}
 use Rattle.calculus.specs.Log.{Event, formed, stepped, log}
-use Rattle.calculus.specs.Problem.{Problem, termCount, constantTerms, Assignment, Satisfies, Accepted}
-use Rattle.calculus.specs.Run.{recordOf, Tally, stop, listForm, takeStep, tally, run, listedForms, SatisfiesForm}
+use Rattle.calculus.specs.Problem.{setCount, Problem, termCount, constantTerms, Assignment, Satisfies, Valid}
+use Rattle.calculus.specs.Run.{Tally, stop, listForm, takeStep, tally, run}
+use Rattle.calculus.specs.Forms.{recordOf, listedForms, SatisfiesForm}
 use Rattle.calculus.specs.Run as R
 use Rattle.calculus.specs.Reading.{Parsed, parsed, refused, _>>=_, ask, read}
 use Rattle.calculus.specs.Calls.{Verdict, FORMS, FALSE, SPENT, NOROOM, Answer, refusal, ended, Outcome, verdictOf, over, asked, left, answered, call}
-use Rattle.calculus.specs.Words.{nextOf, Path, Progress, Works}
+use Rattle.calculus.specs.Order.{nextOf, Path, Progress, Works}
 use Rattle.calculus.specs.Demands.{Follows, SameSolutions, Stops, Asks, Kept}
 use Rattle.calculus.proofs.Bools.{Each-imp, Each-app}
 use Rattle.calculus.proofs.Records.{record-length, run-solutions}
-use Rattle.calculus.proofs.ReadingLaws.{read-accepted}
+use Rattle.calculus.proofs.ReadValid.{read-valid}
 use Rattle.calculus.proofs.WorkOrder.{run-goes}
 
 -- ---- lengths
@@ -90,7 +92,7 @@ abbrev Four : Event → Type 0
 Four (formed b) = Unit {0}
 Four (stepped r) = length r ≡ 4
 
-module _ (n : ℕ) (k : List ℕ) where
+module _ (n : ℕ) (k : List Term) where
   trace-long : (es : List Event) → Each Four es → (l q : ℕ) → length (tally n l q es .trace) ≡ 4 * tally n l q es .steps
   trace-long [] f l q = refl
   trace-long (formed b ∷ es) f l q = go (leb (length (recordOf n b)) q) refl (trace-long es (f .1) l (q - length (recordOf n b)))
@@ -102,9 +104,9 @@ module _ (n : ℕ) (k : List ℕ) where
   trace-long (stepped r ∷ es) f (suc l) q = omega (arith, length-append r (tally n l q es .trace), f .0, trace-long es (f .1) l q)
 
   module _ (ls : List Constraint) where
-    next-four : (b : Branch) (o : Option Candidate) (r : List ℕ) (cs : List Branch) → Ru.stepped k b o ≡ step r cs → length r ≡ 4
+    next-four : (b : Branch) (o : Option Candidate) (r : List ℕ) (cs : List Branch) → Ru.taken k b o ≡ step r cs → length r ≡ 4
     next-four b none r cs e = let w : false ≡ true = cc in absurd (false≢true w)
-    next-four b (some p) r cs e = let z : (p .move .rule ∷ p .constraint ∷ p .concerned ∷ length (children k b (p .move)) ∷ []) ≡ r = cc in ap (length {A = ℕ}) (sym z)
+    next-four b (some p) r cs e = let z : (p .move .rule ∷ p .constraint ∷ p .concerned .index ∷ length (children k b (p .move)) ∷ []) ≡ r = cc in ap (length {A = ℕ}) (sym z)
 
     gather-four : (f : Branch → List Event) → ((b : Branch) → Each Four (f b)) → (cs : List Branch) → Each Four (gather f cs)
     gather-four f h [] = tt
@@ -178,10 +180,10 @@ finished R.NOROOM c v p (inr q) = let w : false ≡ true = cc in absurd (false�
 pub same-solutions : SameSolutions
 same-solutions bytes budget forms trace prob e v n c a f g =
     let w = was bytes budget forms trace prob e v n c a in
-    let acc = read-accepted bytes prob e in
+    let acc = read-valid bytes prob e in
     let s : Tally = run prob budget (length forms) in
     let d = finished (s .end) (s .forms) v (w .verdict-is) f in
-    let L : List Event = log (termCount prob) (constantTerms prob) (prob .constraints) (termCount prob * suc (prob .sets)) (start (termCount prob)) in
+    let L : List Event = log (termCount prob) (constantTerms prob) (prob .constraints) (termCount prob * suc (setCount prob)) (start (termCount prob)) in
     let z : listedForms (3 * termCount prob) c (call bytes budget forms trace .forms) ≡ listedForms (3 * termCount prob) (s .forms) (s .records)
     = rw (w .forms-are, sym (w .count-is)) (listed-app (3 * termCount prob) (s .forms) (s .records) (drop (length (s .records)) forms) (records-long (termCount prob) L budget (length forms))) in
     subst (λ (x : List (List ℕ)). Satisfies prob g ↔ Some (SatisfiesForm prob g) x) (sym z) (run-solutions prob acc budget (length forms) d g)
@@ -190,12 +192,12 @@ pub follows : Follows
 follows bytes budget forms trace prob q v n c a =
     let e = asked-read bytes budget (length trace) prob q in
     let w = was bytes budget forms trace prob e v n c a in
-    let acc = read-accepted bytes prob e in
+    let acc = read-valid bytes prob e in
     let s : Tally = run prob budget (length forms) in
-    let L : List Event = log (termCount prob) (constantTerms prob) (prob .constraints) (termCount prob * suc (prob .sets)) (start (termCount prob)) in
+    let L : List Event = log (termCount prob) (constantTerms prob) (prob .constraints) (termCount prob * suc (setCount prob)) (start (termCount prob)) in
     let g = run-goes prob acc budget (length forms) in
     let long : length (s .records) ≡ c * (3 * termCount prob) = records-long (termCount prob) L budget (length forms) ∙ ap (λ (x : ℕ). x * (3 * termCount prob)) (w .count-is) in
-    let four : length (s .trace) ≡ 4 * n = trace-long (termCount prob) (constantTerms prob) L (log-four (termCount prob) (constantTerms prob) (prob .constraints) (termCount prob * suc (prob .sets)) (start (termCount prob))) budget (length forms) ∙ ap (λ (x : ℕ). 4 * x) (w .steps-are) in (
+    let four : length (s .trace) ≡ 4 * n = trace-long (termCount prob) (constantTerms prob) L (log-four (termCount prob) (constantTerms prob) (prob .constraints) (termCount prob * suc (setCount prob)) (start (termCount prob))) budget (length forms) ∙ ap (λ (x : ℕ). 4 * x) (w .steps-are) in (
       s .records,
       s .trace,
       g .0,
@@ -220,7 +222,7 @@ of-noroom R.NOROOM c p = refl
 pub stops : Stops
 stops bytes budget forms trace prob e n c =
     let s : Tally = run prob budget (length forms) in
-    let L : List Event = log (termCount prob) (constantTerms prob) (prob .constraints) (termCount prob * suc (prob .sets)) (start (termCount prob)) in (
+    let L : List Event = log (termCount prob) (constantTerms prob) (prob .constraints) (termCount prob * suc (setCount prob)) (start (termCount prob)) in (
       (λ a. let w = was bytes budget forms trace prob e SPENT n c a in sym (w .steps-are) ∙ spent-all (termCount prob) L budget (length forms) (of-spent (s .end) (s .forms) (w .verdict-is))),
       (λ a. let w = was bytes budget forms trace prob e NOROOM n c a in subst (λ (x : ℕ). length forms < suc x * (3 * termCount prob)) (w .count-is) (room-full (termCount prob) L budget (length forms) (of-noroom (s .end) (s .forms) (w .verdict-is)))),
     )
@@ -257,12 +259,12 @@ kept bytes budget forms trace = (
   (λ n q. rw q),
   (λ prob q.
       let s : Tally = run prob budget (length forms) in
-      let L : List Event = log (termCount prob) (constantTerms prob) (prob .constraints) (termCount prob * suc (prob .sets)) (start (termCount prob)) in
+      let L : List Event = log (termCount prob) (constantTerms prob) (prob .constraints) (termCount prob * suc (setCount prob)) (start (termCount prob)) in
       let long = records-long (termCount prob) L budget (length forms) in
       let fit = records-fit (termCount prob) L budget (length forms) in
       let few = steps-fit (termCount prob) L budget (length forms) in
       let room = asked-budget bytes budget (length trace) prob q in
-      let four = trace-long (termCount prob) (constantTerms prob) L (log-four (termCount prob) (constantTerms prob) (prob .constraints) (termCount prob * suc (prob .sets)) (start (termCount prob))) budget (length forms) in
+      let four = trace-long (termCount prob) (constantTerms prob) L (log-four (termCount prob) (constantTerms prob) (prob .constraints) (termCount prob * suc (setCount prob)) (start (termCount prob))) budget (length forms) in
       rw q (
         verdictOf (s .end) (s .forms),
         s .steps,

@@ -8,16 +8,18 @@ use Prim.Native.Nat.{ℕ, zero, suc, _+_, _<_, _≤_}
 use native.Mathlib.Omega.{arith}
 use lib.ListN.{length, getD}
 use lib.IntN.{ℤ, pos}
+use Rattle.calculus.specs.Terms.{Term, SetVar, term}
 use Rattle.calculus.specs.Lists.{all, Each}
 use Rattle.calculus.specs.Relations.{Relation, holdsAt, Negation, unequal, denies}
 use Rattle.calculus.specs.Meaning.{Constraint, member, nonmember, same, different, relation, negation, exactly, interval, entries, _∈_, Valuation, Relates, Holds}
-use Rattle.calculus.specs.Check.{eqZ, has, relates?, exactly?, holds?, lowest}
-use Rattle.calculus.specs.Problem.{Problem, Names, Accepted}
+use Rattle.calculus.specs.Check.{has, relates?, exactly?, holds?, lowest}
+use Rattle.calculus.specs.Problem.{Problem, Valid}
+use Rattle.calculus.proofs.ConstraintLaws.{InScope}
 use Rattle.calculus.proofs.Bools.{and-l, and-r, and-i, clash, test, each-all, all-each, not-f}
 use Rattle.calculus.proofs.Tables.{relation-none}
-use Rattle.calculus.proofs.Truth.{Reflects, is, isnt, reflects, eqZ-eq, eq-eqZ, has-in, in-has, relates-test, test-relates}
+use Rattle.calculus.proofs.Truth.{eqZ, Reflects, is, isnt, reflects, eqZ-eq, eq-eqZ, has-in, in-has, relates-test, test-relates}
 use Rattle.calculus.proofs.RuleLaws.{Lists, Good}
-use Rattle.calculus.proofs.ConstraintLaws.{all-in, span-to, span-from, images-in}
+use Rattle.calculus.proofs.ConstraintLaws.{all-in, interval-to, interval-from, images-in}
 
 -- a test that is true exactly where the statement is
 by-test : {P : Type 0} (b : Bool) → (b ≡ true → P) → (P → b ≡ true) → Reflects P b
@@ -45,15 +47,15 @@ relates-is k l m r = by-test (relates? k l m r) (λ e. test-relates k l m r (eve
     back h = and-i (and-i (all-of t l (λ x _. relates-test k l m r h x)) (all-of t m (λ x _. relates-test k l m r h x))) (all-of t r (λ x _. relates-test k l m r h x))
 
     every-x : relates? k l m r ≡ true → (x : ℤ) → t x ≡ true
-    every-x e x = operandOf (test (has l x)) (test (has m x)) (test (has r x))
+    every-x e x = by-case (test (has l x)) (test (has m x)) (test (has r x))
       where
-        operandOf : (has l x ≡ true) ⊎ (has l x ≡ false) → (has m x ≡ true) ⊎ (has m x ≡ false) → (has r x ≡ true) ⊎ (has r x ≡ false) → t x ≡ true
-        operandOf (inl a) b c = all-in t l (and-l (all t l) (all t m) (and-l (all t l && all t m) (all t r) e)) x (has-in l x a)
-        operandOf (inr a) (inl b) c = all-in t m (and-r (all t l) (all t m) (and-l (all t l && all t m) (all t r) e)) x (has-in m x b)
-        operandOf (inr a) (inr b) (inl c) = all-in t r (and-r (all t l && all t m) (all t r) e) x (has-in r x c)
-        operandOf (inr a) (inr b) (inr c) = rw (a, b, c) (relation-none k)
+        by-case : (has l x ≡ true) ⊎ (has l x ≡ false) → (has m x ≡ true) ⊎ (has m x ≡ false) → (has r x ≡ true) ⊎ (has r x ≡ false) → t x ≡ true
+        by-case (inl a) b c = all-in t l (and-l (all t l) (all t m) (and-l (all t l && all t m) (all t r) e)) x (has-in l x a)
+        by-case (inr a) (inl b) c = all-in t m (and-r (all t l) (all t m) (and-l (all t l && all t m) (all t r) e)) x (has-in m x b)
+        by-case (inr a) (inr b) (inl c) = all-in t r (and-r (all t l && all t m) (all t r) e) x (has-in r x c)
+        by-case (inr a) (inr b) (inr c) = rw (a, b, c) (relation-none k)
 
-lists-is : (v : Valuation) (A : ℕ) (es : List ℕ) → Reflects (Lists v A es) (exactly? v A es)
+lists-is : (v : Valuation) (A : SetVar) (es : List Term) → Reflects (Lists v A es) (exactly? v A es)
 lists-is v A es = by-test (exactly? v A es)
     (λ e x. (
       (λ m. has-in (map (v .num) es) x (all-in (has (map (v .num) es)) (v .members A) (and-l (all (has (map (v .num) es)) (v .members A)) (all (λ e. has (v .members A) (v .num e)) es) e) x m)),
@@ -62,12 +64,12 @@ lists-is v A es = by-test (exactly? v A es)
     (λ h. and-i (all-of (has (map (v .num) es)) (v .members A) (λ x m. in-has (map (v .num) es) x (h x .0 m)))
     (all-each (λ e. has (v .members A) (v .num e)) es (each-in es (λ x m. h x .1 m))))
   where
-    each-in : (ds : List ℕ) → ((x : ℤ) → x ∈ map (v .num) ds → x ∈ v .members A) → Each (λ e. has (v .members A) (v .num e) ≡ true) ds
+    each-in : (ds : List Term) → ((x : ℤ) → x ∈ map (v .num) ds → x ∈ v .members A) → Each (λ e. has (v .members A) (v .num e) ≡ true) ds
     each-in [] f = tt
     each-in (d ∷ ds) f = (in-has (v .members A) (v .num d) (f (v .num d) (inl refl)), each-in ds (λ x m. f x (inr m)))
 
-module _ (prob : Problem) (acc : Accepted prob) (v : Valuation) (own : (p : ℕ) → p < length (prob .constants) → v .num p ≡ getD (prob .constants) p (pos 0)) where
-  pub holds-is : (l : Constraint) → Names prob l → Reflects (Holds v l) (holds? v l)
+module _ (prob : Problem) (acc : Valid prob) (v : Valuation) (own : (p : ℕ) → p < length (prob .constants) → v .num (term p) ≡ getD (prob .constants) p (pos 0)) where
+  pub holds-is : (l : Constraint) → InScope prob l → Reflects (Holds v l) (holds? v l)
   holds-is (member t A) a = reflects (v .members A) (v .num t)
   holds-is (nonmember t A) a = flip (reflects (v .members A) (v .num t))
   holds-is (same t u) a = same? (v .num t) (v .num u)
@@ -78,14 +80,5 @@ module _ (prob : Problem) (acc : Accepted prob) (v : Valuation) (own : (p : ℕ)
   holds-is (interval A i j) a = go (lists-is v A (entries i j))
     where
       go : {b : Bool} → Reflects (Lists v A (entries i j)) b → Reflects (Holds v (interval A i j)) b
-      go (is g) = is (λ x. (λ m. span-from prob acc v own i j (a .1) (a .2) (a .3) x (g x .0 m), λ m. g x .1 (span-to prob acc v own i j (a .1) (a .2) (a .3) x m)))
-      go (isnt n) = isnt (λ h. n (λ x. (λ m. span-to prob acc v own i j (a .1) (a .2) (a .3) x (h x .0 m), λ m. h x .1 (span-from prob acc v own i j (a .1) (a .2) (a .3) x m))))
-
-  -- no constraint fails: every constraint holds
-  pub lowest-none : (ls : List Constraint) (i : ℕ) → Each (Names prob) ls → lowest v i ls ≡ none → Each (Holds v) ls
-  lowest-none [] i a e = tt
-  lowest-none (l ∷ ls) i a e = go (holds? v l) refl (holds-is l (a .0)) (lowest-none ls (suc i) (a .1))
-    where
-      go : (b : Bool) → holds? v l ≡ b → Reflects (Holds v l) (holds? v l) → (lowest v (suc i) ls ≡ none → Each (Holds v) ls) → Holds v l × Each (Holds v) ls
-      go true q r ih = (Rattle.calculus.proofs.Truth.yes-of r q, ih (rw (q, lowest) at e))
-      go false q r ih = let z : _≡_ {A = Option ℕ} (some i) none = rw (q, lowest) at e in let w : false ≡ true = cc in absurd (false≢true w)
+      go (is g) = is (λ x. (λ m. interval-from prob acc v own i j (a .1) (a .2) (a .3) x (g x .0 m), λ m. g x .1 (interval-to prob acc v own i j (a .1) (a .2) (a .3) x m)))
+      go (isnt n) = isnt (λ h. n (λ x. (λ m. interval-to prob acc v own i j (a .1) (a .2) (a .3) x (h x .0 m), λ m. h x .1 (interval-from prob acc v own i j (a .1) (a .2) (a .3) x m))))

@@ -9,33 +9,34 @@ use native.Mathlib.Omega.{arith}
 use native.Mathlib.Decide.{decLt}
 use lib.ListN.{length, getD}
 use lib.IntN.{ℤ, pos}
+use Rattle.calculus.specs.Terms.{term, setVar}
 use Rattle.calculus.specs.Lists.{Each}
 use Rattle.calculus.specs.Meaning.{Constraint, member, Valuation, Holds}
-use Rattle.calculus.specs.Check.{holds?, lowest}
-use Rattle.calculus.specs.Problem.{Problem, Names, Accepted, Assignment, values, Satisfies}
+use Rattle.calculus.specs.Check.{readAssignment, assignmentOf, holds?, lowest}
+use Rattle.calculus.specs.Problem.{Problem, Valid, Assignment, values, Satisfies}
 use Rattle.calculus.specs.Reading.{Parsed, parsed, refused, _>>=_, read}
-use Rattle.calculus.specs.Calls.{Checked, declined, HOLDS, FAILS, readAssignment, assignmentOf, found, check}
+use Rattle.calculus.specs.Calls.{Checked, declined, HOLDS, FAILS, found, check}
 use Rattle.calculus.specs.Demands.{Checks}
 use Rattle.calculus.proofs.Truth.{Reflects, is, isnt, yes-of}
 use Rattle.calculus.proofs.CheckLaws.{holds-is}
-use Rattle.calculus.proofs.ConstraintLaws.{own}
-use Rattle.calculus.proofs.Accepting.{each-at}
-use Rattle.calculus.proofs.ReadingLaws.{read-accepted}
+use Rattle.calculus.proofs.ConstraintLaws.{InScope, own}
+use Rattle.calculus.proofs.Words.{each-at}
+use Rattle.calculus.proofs.ReadValid.{read-valid}
 
 no-of : {P : Type 0} {a : Bool} → Reflects P a → a ≡ false → ¬ P
 no-of (is p) q = let w : false ≡ true = cc in absurd (false≢true w)
 no-of (isnt n) q = n
 
-module _ (prob : Problem) (acc : Accepted prob) (v : Valuation) (mine : (p : ℕ) → p < length (prob .constants) → v .num p ≡ getD (prob .constants) p (pos 0)) where
+module _ (prob : Problem) (acc : Valid prob) (v : Valuation) (mine : (p : ℕ) → p < length (prob .constants) → v .num (term p) ≡ getD (prob .constants) p (pos 0)) where
   abbrev constraint : List Constraint → ℕ → Constraint
-  constraint ls d = getD ls d (member 0 0)
+  constraint ls d = getD ls d (member (term 0) (setVar 0))
 
   -- what the answer says of the constraints, counted from i
   abbrev Answers : ℕ → List Constraint → Option ℕ → Type 0
   Answers i ls none = Each (Holds v) ls
   Answers i ls (some j) = (d : ℕ) × (j ≡ i + d) × (d < length ls) × ¬ Holds v (constraint ls d) × ((e : ℕ) → e < d → Holds v (constraint ls e))
 
-  answers : (ls : List Constraint) (i : ℕ) → Each (Names prob) ls → Answers i ls (lowest v i ls)
+  answers : (ls : List Constraint) (i : ℕ) → Each (InScope prob) ls → Answers i ls (lowest v i ls)
   answers [] i a = tt
   answers (l ∷ ls) i a = go (holds? v l) refl (answers ls (suc i) (a .1))
     where
@@ -54,10 +55,10 @@ module _ (prob : Problem) (acc : Accepted prob) (v : Valuation) (mine : (p : ℕ
   -- the other way: what the constraints say determines the answer
   all-hold : (ls : List Constraint) (o : Option ℕ) → Answers 0 ls o → Each (Holds v) ls → o ≡ none
   all-hold ls none a h = refl
-  all-hold ls (some j) a h = absurd (a .3 (each-at (Holds v) ls (member 0 0) h (a .0) (a .2)))
+  all-hold ls (some j) a h = absurd (a .3 (each-at (Holds v) ls (member (term 0) (setVar 0)) h (a .0) (a .2)))
 
   one-fails : (ls : List Constraint) (o : Option ℕ) → Answers 0 ls o → (i : ℕ) → i < length ls → ¬ Holds v (constraint ls i) → ((j : ℕ) → j < i → Holds v (constraint ls j)) → o ≡ some i
-  one-fails ls none a i l n h = absurd (n (each-at (Holds v) ls (member 0 0) a i l))
+  one-fails ls none a i l n h = absurd (n (each-at (Holds v) ls (member (term 0) (setVar 0)) a i l))
   one-fails ls (some j) a i l n h = go (decLt (a .0) i) (decLt i (a .0))
     where
       go : Dec (a .0 < i) → Dec (i < a .0) → some j ≡ some i
@@ -87,11 +88,11 @@ checks bytes assignment = (
   (λ prob e. (
     (λ n f. rw (e, f)),
     (λ g f.
-        let acc = read-accepted bytes prob e in
+        let acc = read-valid bytes prob e in
         let v : Valuation = values prob (assignmentOf g) (λ _. pos 0) in
         let mine = own prob acc (assignmentOf g) (λ _. pos 0) in
         let o : Option ℕ = lowest v 0 (prob .constraints) in
-        let a = answers prob acc v mine (prob .constraints) 0 (acc .variables) in
+        let a = answers prob acc v mine (prob .constraints) 0 (acc .refers) in
         let is : check bytes assignment ≡ found (parsed o) = rw (e, f) in (
           ((λ h. subst (Answers prob acc v mine 0 (prob .constraints)) (found-holds o (sym is ∙ h)) a), (λ h. is ∙ ap (λ (x : Option ℕ). found (parsed x)) (all-hold prob acc v mine (prob .constraints) o a h))),
           (λ i. (

@@ -6,6 +6,7 @@ use mathlib.Core.Option.{Option, none, some}
 use mathlib.Core.List.{List, [], _∷_, _++_, map}
 use Prim.Native.Nat.{ℕ, zero, suc, _+_, _<_, _≤_}
 use native.Mathlib.Omega.{arith}
+use Rattle.calculus.specs.Terms.{Term}
 use Rattle.calculus.specs.Lists.{all, any, Each, Some, here, there, picked}
 use Rattle.calculus.specs.Meaning.{Valuation}
 use Rattle.calculus.specs.Branch.{Branch, Fact, known, assert, assertAll}
@@ -15,7 +16,7 @@ use Rattle.calculus.proofs.Asserting.{WellFormed, Ranged, assert-keeps,
 use Rattle.calculus.proofs.Keeping.{assert-fit}
 use Rattle.calculus.proofs.Measure.{measure, assert-falls, assert-same, assert-le}
 
-module _ (n : ℕ) (k : List ℕ) (m : ℕ) where
+module _ (n : ℕ) (k : List Term) (m : ℕ) where
   -- facts that are true of values that satisfy the branch: asserting them gives a branch that they satisfy
   module _ (v : Valuation) (d : Distinct k v) where
     pub asserts-keep : (fs : List Fact) → Each (Ranged n m) fs → all (truth v) fs ≡ true → (b : Branch) → WellFormed n k b → Sat v b → (c : Branch) × (assertAll k b fs ≡ some c) × Sat v c

@@ -12,15 +12,16 @@ use lib.Dec.{T, eqb, ltb, leb, leb→le, le→leb, ltb→lt}
 use lib.IntN.{ℤ, pos, negsuc}
 use lib.Signed.{_≤ℤ_, _<ℤ_, ltZ, leZ, ≤ℤ-refl, <ℤ-≤ℤ-trans, <ℤ-irrefl, clashℤ, mag}
 use borrow.Author.Tests.{eqb-true, eq-eqb, ne-eqb, lt-ltb, le-ltb}
+use Rattle.calculus.specs.Terms.{Term, SetVar, term, termsFrom}
 use Rattle.calculus.specs.Lists.{all, any, upFrom, Each}
 use Rattle.calculus.specs.Relations.{Relation, holdsAt, Negation, unequal, denies}
 use Rattle.calculus.specs.Meaning.{Constraint, member, nonmember, same, different, relation, negation, exactly, interval, entries, _∈_, Valuation, Relates, Holds}
-use Rattle.calculus.specs.Problem.{Problem, nameable, termCount, Assignment, valueOf, values, Satisfies, classValue, constantTerms, Rising, Names, uses, Tied, Numbered, Accepted}
+use Rattle.calculus.specs.Problem.{setCount, Problem, nameable, termCount, Assignment, valueOf, values, Satisfies, constantTerms, Rising, Refers, uses, Tied, Numbered, Valid}
 use Rattle.calculus.proofs.Bools.{and-l, and-r, and-i, or-cases, clash, test, each-all, all-each, Each-imp, Each-zip}
 use Rattle.calculus.proofs.Tables.{relation-none}
 use Rattle.calculus.proofs.Truth.{has, has-in, in-has, relates-test, test-relates, Is, Distinct}
 use Rattle.calculus.proofs.RuleLaws.{ConstraintIn, Lists, Good}
-use Rattle.calculus.proofs.Stepping.{up-each, up-at}
+use Rattle.calculus.proofs.Stepping.{terms-each, terms-at}
 
 -- ---- order
 
@@ -62,16 +63,16 @@ place-of (c ∷ cs) x (inl e) = (zero, suc-le-suc zero-le, e)
 place-of (c ∷ cs) x (inr m) = let r = place-of cs x m in (suc (r .0), suc-le-suc (r .1), r .2)
 
 -- the image of a number of the list
-image-of : (f : ℕ → ℤ) (es : List ℕ) → Each (λ e. f e ∈ map f es) es
+image-of : (f : Term → ℤ) (es : List Term) → Each (λ e. f e ∈ map f es) es
 image-of f [] = tt
 image-of f (e ∷ es) = (inl refl, Each-imp (λ j. f j ∈ map f es) (λ j. f j ∈ map f (e ∷ es)) es (λ j q. inr q) (image-of f es))
 
-from-image : (P : ℕ → Type 0) (f : ℕ → ℤ) (l : List ℕ) (x : ℤ) → Each P l → x ∈ map f l → (h : ℕ) × P h × (x ≡ f h)
+from-image : (P : Term → Type 0) (f : Term → ℤ) (l : List Term) (x : ℤ) → Each P l → x ∈ map f l → (h : Term) × P h × (x ≡ f h)
 from-image P f [] x e m = absurd m
 from-image P f (h ∷ hs) x e (inl q) = (h, e .0, q)
 from-image P f (h ∷ hs) x e (inr q) = from-image P f hs x (e .1) q
 
-pub images-in : (f : ℕ → ℤ) (l : List ℤ) (es : List ℕ) → all (λ e. has l (f e)) es ≡ true → (x : ℤ) → x ∈ map f es → x ∈ l
+pub images-in : (f : Term → ℤ) (l : List ℤ) (es : List Term) → all (λ e. has l (f e)) es ≡ true → (x : ℤ) → x ∈ map f es → x ∈ l
 images-in f l [] q x m = absurd m
 images-in f l (e ∷ es) q x (inl z) = subst (λ (y : ℤ). y ∈ l) (sym z) (has-in l (f e) (and-l (has l (f e)) (all (λ e. has l (f e)) es) q))
 images-in f l (e ∷ es) q x (inr m) = images-in f l es (and-r (has l (f e)) (all (λ e. has l (f e)) es) q) x m
@@ -99,13 +100,13 @@ breaks k l m r h = go (all-or-not t l) (all-or-not t m) (all-or-not t r)
     t x = holdsAt k (has l x) (has m x) (has r x)
 
     every-x : all t l ≡ true → all t m ≡ true → all t r ≡ true → (x : ℤ) → t x ≡ true
-    every-x p q s x = operandOf (test (has l x)) (test (has m x)) (test (has r x))
+    every-x p q s x = by-case (test (has l x)) (test (has m x)) (test (has r x))
       where
-        operandOf : (has l x ≡ true) ⊎ (has l x ≡ false) → (has m x ≡ true) ⊎ (has m x ≡ false) → (has r x ≡ true) ⊎ (has r x ≡ false) → t x ≡ true
-        operandOf (inl a) b c = all-in t l p x (has-in l x a)
-        operandOf (inr a) (inl b) c = all-in t m q x (has-in m x b)
-        operandOf (inr a) (inr b) (inl c) = all-in t r s x (has-in r x c)
-        operandOf (inr a) (inr b) (inr c) = rw (a, b, c) (relation-none k)
+        by-case : (has l x ≡ true) ⊎ (has l x ≡ false) → (has m x ≡ true) ⊎ (has m x ≡ false) → (has r x ≡ true) ⊎ (has r x ≡ false) → t x ≡ true
+        by-case (inl a) b c = all-in t l p x (has-in l x a)
+        by-case (inr a) (inl b) c = all-in t m q x (has-in m x b)
+        by-case (inr a) (inr b) (inl c) = all-in t r s x (has-in r x c)
+        by-case (inr a) (inr b) (inr c) = rw (a, b, c) (relation-none k)
 
     go : (all t l ≡ true) ⊎ ((x : ℤ) × (t x ≡ false)) → (all t m ≡ true) ⊎ ((x : ℤ) × (t x ≡ false)) → (all t r ≡ true) ⊎ ((x : ℤ) × (t x ≡ false)) → (x : ℤ) × (t x ≡ false)
     go (inr z) b c = z
@@ -114,22 +115,26 @@ breaks k l m r h = go (all-or-not t l) (all-or-not t m) (all-or-not t r)
     go (inl p) (inl q) (inl s) = absurd (h (test-relates k l m r (every-x p q s)))
 
 -- the constants' terms are those below their count
-is-up : (s n i : ℕ) → Is (upFrom s n) i → (s ≤ i) × (i < s + n)
+is-up : (s n i : ℕ) → Is (termsFrom s n) i → (s ≤ i) × (i < s + n)
 is-up s zero i e = absurd (false≢true e)
-is-up s (suc n) i e = go (or-cases (eqb s i) (any (λ (j : ℕ). eqb j i) (upFrom (suc s) n)) e) (is-up (suc s) n i)
+is-up s (suc n) i e = go (or-cases (eqb s i) (any (λ (j : Term). eqb (j .index) i) (termsFrom (suc s) n)) e) (is-up (suc s) n i)
   where
-    go : (eqb s i ≡ true) ⊎ (any (λ (j : ℕ). eqb j i) (upFrom (suc s) n) ≡ true) → (any (λ (j : ℕ). eqb j i) (upFrom (suc s) n) ≡ true → (suc s ≤ i) × (i < suc s + n)) → (s ≤ i) × (i < s + suc n)
+    go : (eqb s i ≡ true) ⊎ (any (λ (j : Term). eqb (j .index) i) (termsFrom (suc s) n) ≡ true) → (any (λ (j : Term). eqb (j .index) i) (termsFrom (suc s) n) ≡ true → (suc s ≤ i) × (i < suc s + n)) → (s ≤ i) × (i < s + suc n)
     go (inl q) ih = omega (arith, eqb-true s i q)
     go (inr q) ih = omega (arith, ih q)
 
-pub is-below : (n i : ℕ) → Is (upFrom 0 n) i → i < n
+pub is-below : (n i : ℕ) → Is (termsFrom 0 n) i → i < n
 is-below n i e = omega (arith, is-up 0 n i e)
 
 pub last-le : (ls : List Constraint) (w last : ℕ) → Numbered w last ls → w ≤ last
 last-le [] w last e = omega arith
 last-le (l ∷ ls) w last e = omega (arith, last-le ls (w + uses l) last (e .1))
 
-module _ (prob : Problem) (acc : Accepted prob) where
+-- its operands are of the problem
+abbrev pub InScope : Problem → Constraint → Type 0
+InScope prob l = Refers (prob .constants) (nameable prob) (setCount prob) l
+
+module _ (prob : Problem) (acc : Valid prob) where
   abbrev K : ℕ
   K = length (prob .constants)
 
@@ -138,53 +143,53 @@ module _ (prob : Problem) (acc : Accepted prob) where
   wide : (t : ℕ) → t < nameable prob → t < termCount prob
   wide t l = omega arith
 
-  constraint-in : (l : Constraint) (w : ℕ) → Names prob l → Tied w l → w + uses l ≤ termCount prob → ConstraintIn (termCount prob) (prob .sets) l
-  constraint-in (member t A) w a e q = (wide t (a .0), a .1)
-  constraint-in (nonmember t A) w a e q = (wide t (a .0), a .1)
-  constraint-in (same t u) w a e q = (wide t (a .0), wide u (a .1))
-  constraint-in (different t u) w a e q = (wide t (a .0), wide u (a .1))
-  constraint-in (relation k A B C) w a e q = a
-  constraint-in (negation k A B C u) w a e q = (a, omega arith)
-  constraint-in (exactly A es) w a e q = (a .0, Each-imp (λ t. t < nameable prob) (λ t. t < termCount prob) es wide (a .1))
-  constraint-in (interval A i j) w a e q = (a .0, up-each (λ t. t < termCount prob) i (suc j - i) (λ t l h. omega (arith, a .1, a .2)))
+  constraint-in : (l : Constraint) (w : ℕ) → InScope prob l → Tied w l → w + uses l ≤ termCount prob → ConstraintIn (termCount prob) (setCount prob) l
+  constraint-in (member t A) w a e q = (wide (t .index) (a .0), a .1)
+  constraint-in (nonmember t A) w a e q = (wide (t .index) (a .0), a .1)
+  constraint-in (same t u) w a e q = (wide (t .index) (a .0), wide (u .index) (a .1))
+  constraint-in (different t u) w a e q = (wide (t .index) (a .0), wide (u .index) (a .1))
+  constraint-in (relation k A B C) w a e q = (a .0, a .1, a .2)
+  constraint-in (negation k A B C u) w a e q = ((a .0, a .1, subst (λ (X : SetVar). X .index < setCount prob) (sym (a .2)) (a .0)), omega arith)
+  constraint-in (exactly A es) w a e q = (a .0, Each-imp (λ t. t .index < nameable prob) (λ t. t .index < termCount prob) es (λ t l. wide (t .index) l) (a .1))
+  constraint-in (interval A i j) w a e q = (a .0, terms-each (λ t. t .index < termCount prob) (i .index) (suc (j .index) - (i .index)) (λ t l h. omega (arith, a .1, a .2)))
 
-  constraints-in′ : (ls : List Constraint) (w : ℕ) → Each (Names prob) ls → Numbered w (termCount prob) ls → Each (ConstraintIn (termCount prob) (prob .sets)) ls
+  constraints-in′ : (ls : List Constraint) (w : ℕ) → Each (InScope prob) ls → Numbered w (termCount prob) ls → Each (ConstraintIn (termCount prob) (setCount prob)) ls
   constraints-in′ [] w a e = tt
   constraints-in′ (l ∷ ls) w a e = (constraint-in l w (a .0) (e .0) (last-le ls (w + uses l) (termCount prob) (e .1)), constraints-in′ ls (w + uses l) (a .1) (e .1))
 
-  pub constraints-in : Each (ConstraintIn (termCount prob) (prob .sets)) (prob .constraints)
-  constraints-in = constraints-in′ (prob .constraints) (nameable prob) (acc .variables) (acc .numbered)
+  pub constraints-in : Each (ConstraintIn (termCount prob) (setCount prob)) (prob .constraints)
+  constraints-in = constraints-in′ (prob .constraints) (nameable prob) (acc .refers) (acc .numbered)
 
   -- ---- values with the problem's constants
 
-  module _ (v : Valuation) (own : (p : ℕ) → p < K → v .num p ≡ getD (prob .constants) p (pos 0)) where
+  module _ (v : Valuation) (own : (p : ℕ) → p < K → v .num (term p) ≡ getD (prob .constants) p (pos 0)) where
     pub constants-distinct : Distinct (constantTerms prob) v
     constants-distinct i j p q e = let li = is-below K i p in let lj = is-below K j q in rising-inj (prob .constants) (acc .rising) i j li lj (sym (own i li) ∙ e ∙ own j lj)
 
     -- an interval is its entries
-    module _ (i j : ℕ) (li : i < K) (lj : j < K) (fill : (x : ℤ) → getD (prob .constants) i (pos 0) ≤ℤ x → x ≤ℤ getD (prob .constants) j (pos 0) → x ∈ prob .constants) where
-      pub span-to : (x : ℤ) → (v .num i ≤ℤ x) × (x ≤ℤ v .num j) → x ∈ map (v .num) (entries i j)
-      span-to x h =
-          let a : getD (prob .constants) i (pos 0) ≤ℤ x = rw (own i li) at (h .0) in
-          let b : x ≤ℤ getD (prob .constants) j (pos 0) = rw (own j lj) at (h .1) in
+    module _ (i j : Term) (li : i .index < K) (lj : j .index < K) (fill : (x : ℤ) → getD (prob .constants) (i .index) (pos 0) ≤ℤ x → x ≤ℤ getD (prob .constants) (j .index) (pos 0) → x ∈ prob .constants) where
+      pub interval-to : (x : ℤ) → (v .num i ≤ℤ x) × (x ≤ℤ v .num j) → x ∈ map (v .num) (entries i j)
+      interval-to x h =
+          let a : getD (prob .constants) (i .index) (pos 0) ≤ℤ x = rw (own (i .index) li) at (h .0) in
+          let b : x ≤ℤ getD (prob .constants) (j .index) (pos 0) = rw (own (j .index) lj) at (h .1) in
           let r = place-of (prob .constants) x (fill x a b) in
           let p : ℕ = r .0 in
-          let lo : i ≤ p = le-rising (prob .constants) (acc .rising) i p li (subst (λ (y : ℤ). getD (prob .constants) i (pos 0) ≤ℤ y) (r .2) a) in
-          let hi : p ≤ j = le-rising (prob .constants) (acc .rising) p j (r .1) (subst (λ (y : ℤ). y ≤ℤ getD (prob .constants) j (pos 0)) (r .2) b) in
+          let lo : i .index ≤ p = le-rising (prob .constants) (acc .rising) (i .index) p li (subst (λ (y : ℤ). getD (prob .constants) (i .index) (pos 0) ≤ℤ y) (r .2) a) in
+          let hi : p ≤ j .index = le-rising (prob .constants) (acc .rising) p (j .index) (r .1) (subst (λ (y : ℤ). y ≤ℤ getD (prob .constants) (j .index) (pos 0)) (r .2) b) in
           subst (λ (y : ℤ). y ∈ map (v .num) (entries i j)) (own p (r .1) ∙ sym (r .2))
-          (up-at (λ t. v .num t ∈ map (v .num) (entries i j)) i (suc j - i) (image-of (v .num) (entries i j)) p lo (omega arith))
+          (terms-at (λ t. v .num t ∈ map (v .num) (entries i j)) (i .index) (suc (j .index) - i .index) (image-of (v .num) (entries i j)) p lo (omega arith))
 
-      pub span-from : (x : ℤ) → x ∈ map (v .num) (entries i j) → (v .num i ≤ℤ x) × (x ≤ℤ v .num j)
-      span-from x m =
-          let r = from-image (λ t. (i ≤ t) × (t < suc j)) (v .num) (entries i j) x (up-each (λ t. (i ≤ t) × (t < suc j)) i (suc j - i) (λ t l h. (l, omega arith))) m in
-          let p : ℕ = r .0 in
-          let pj : p ≤ j = omega (arith, r .1 .1) in
+      pub interval-from : (x : ℤ) → x ∈ map (v .num) (entries i j) → (v .num i ≤ℤ x) × (x ≤ℤ v .num j)
+      interval-from x m =
+          let r = from-image (λ t. (i .index ≤ t .index) × (t .index < suc (j .index))) (v .num) (entries i j) x (terms-each (λ t. (i .index ≤ t .index) × (t .index < suc (j .index))) (i .index) (suc (j .index) - i .index) (λ t l h. (l, omega arith))) m in
+          let p : ℕ = r .0 .index in
+          let pj : p ≤ j .index = omega (arith, r .1 .1) in
           let pk : p < K = omega arith in
           let e : x ≡ getD (prob .constants) p (pos 0) = r .2 ∙ own p pk in
-          (rw (own i li, e) (rising-le (prob .constants) (acc .rising) i p (r .1 .0) pk), rw (own j lj, e) (rising-le (prob .constants) (acc .rising) p j pj lj))
+          (rw (own (i .index) li, e) (rising-le (prob .constants) (acc .rising) (i .index) p (r .1 .0) pk), rw (own (j .index) lj, e) (rising-le (prob .constants) (acc .rising) p (j .index) pj lj))
 
     -- what the rules use is what the constraints say
-    pub good-holds : (l : Constraint) → Names prob l → Good v l → Holds v l
+    pub good-holds : (l : Constraint) → InScope prob l → Good v l → Holds v l
     good-holds (member t A) a g = g
     good-holds (nonmember t A) a g = g
     good-holds (same t u) a g = g
@@ -192,65 +197,65 @@ module _ (prob : Problem) (acc : Accepted prob) where
     good-holds (relation k A B C) a g = g
     good-holds (negation k A B C w) a g = λ h. clash (relates-test (denies k) (v .members A) (v .members B) (v .members C) h (v .num w)) g
     good-holds (exactly A es) a g = g
-    good-holds (interval A i j) a g = λ x. (λ m. span-from i j (a .1) (a .2) (a .3) x (g x .0 m), λ m. g x .1 (span-to i j (a .1) (a .2) (a .3) x m))
+    good-holds (interval A i j) a g = λ x. (λ m. interval-from i j (a .1) (a .2) (a .3) x (g x .0 m), λ m. g x .1 (interval-to i j (a .1) (a .2) (a .3) x m))
 
-    span-good : (A i j : ℕ) → Names prob (interval A i j) → Holds v (interval A i j) → Good v (interval A i j)
-    span-good A i j a h x = (λ m. span-to i j (a .1) (a .2) (a .3) x (h x .0 m), λ m. h x .1 (span-from i j (a .1) (a .2) (a .3) x m))
+    interval-good : (A : SetVar) (i j : Term) → InScope prob (interval A i j) → Holds v (interval A i j) → Good v (interval A i j)
+    interval-good A i j a h x = (λ m. interval-to i j (a .1) (a .2) (a .3) x (h x .0 m), λ m. h x .1 (interval-from i j (a .1) (a .2) (a .3) x m))
 
   -- ---- witnesses
 
   module _ (g : Assignment) where
-    pub own : (witness : ℕ → ℤ) (p : ℕ) → p < K → values prob g witness .num p ≡ getD (prob .constants) p (pos 0)
+    pub own : (witness : Term → ℤ) (p : ℕ) → p < K → values prob g witness .num (term p) ≡ getD (prob .constants) p (pos 0)
     own witness p l = rw (lt-ltb p K l)
 
     -- a named term has the same value whatever the witnesses have
-    num-any : (u w : ℕ → ℤ) (t : ℕ) → t < nameable prob → values prob g u .num t ≡ values prob g w .num t
+    num-any : (u w : Term → ℤ) (t : ℕ) → t < nameable prob → values prob g u .num (term t) ≡ values prob g w .num (term t)
     num-any u w t l = rw (lt-ltb t (nameable prob) l)
 
-    nums-any : (u w : ℕ → ℤ) (es : List ℕ) → Each (λ e. e < nameable prob) es → map (values prob g u .num) es ≡ map (values prob g w .num) es
+    nums-any : (u w : Term → ℤ) (es : List Term) → Each (λ e. e .index < nameable prob) es → map (values prob g u .num) es ≡ map (values prob g w .num) es
     nums-any u w [] a = refl
-    nums-any u w (e ∷ es) a = ap₂ (λ (x : ℤ) (y : List ℤ). x ∷ y) (num-any u w e (a .0)) (nums-any u w es (a .1))
+    nums-any u w (e ∷ es) a = ap₂ (λ (x : ℤ) (y : List ℤ). x ∷ y) (num-any u w (e .index) (a .0)) (nums-any u w es (a .1))
 
-    pub holds-any : (u w : ℕ → ℤ) (l : Constraint) → Names prob l → Holds (values prob g u) l → Holds (values prob g w) l
-    holds-any u w (member t A) a h = subst (λ (x : ℤ). x ∈ g .members A) (num-any u w t (a .0)) h
-    holds-any u w (nonmember t A) a h = λ m. h (subst (λ (x : ℤ). x ∈ g .members A) (num-any w u t (a .0)) m)
-    holds-any u w (same t s) a h = num-any w u t (a .0) ∙ h ∙ num-any u w s (a .1)
-    holds-any u w (different t s) a h = λ e. h (num-any u w t (a .0) ∙ e ∙ num-any w u s (a .1))
+    pub holds-any : (u w : Term → ℤ) (l : Constraint) → InScope prob l → Holds (values prob g u) l → Holds (values prob g w) l
+    holds-any u w (member t A) a h = subst (λ (x : ℤ). x ∈ g .members A) (num-any u w (t .index) (a .0)) h
+    holds-any u w (nonmember t A) a h = λ m. h (subst (λ (x : ℤ). x ∈ g .members A) (num-any w u (t .index) (a .0)) m)
+    holds-any u w (same t s) a h = num-any w u (t .index) (a .0) ∙ h ∙ num-any u w (s .index) (a .1)
+    holds-any u w (different t s) a h = λ e. h (num-any u w (t .index) (a .0) ∙ e ∙ num-any w u (s .index) (a .1))
     holds-any u w (relation k A B C) a h = h
     holds-any u w (negation k A B C x) a h = h
     holds-any u w (exactly A es) a h = subst (λ (ys : List ℤ). (x : ℤ) → x ∈ g .members A ↔ x ∈ ys) (nums-any u w es (a .1)) h
     holds-any u w (interval A i j) a h =
-        subst (λ (y : ℤ). (x : ℤ) → x ∈ g .members A ↔ ((y ≤ℤ x) × (x ≤ℤ values prob g w .num j))) (num-any u w i (omega (arith, a .1)))
-        (subst (λ (z : ℤ). (x : ℤ) → x ∈ g .members A ↔ ((values prob g u .num i ≤ℤ x) × (x ≤ℤ z))) (num-any u w j (omega (arith, a .2))) h)
+        subst (λ (y : ℤ). (x : ℤ) → x ∈ g .members A ↔ ((y ≤ℤ x) × (x ≤ℤ values prob g w .num j))) (num-any u w (i .index) (omega (arith, a .1)))
+        (subst (λ (z : ℤ). (x : ℤ) → x ∈ g .members A ↔ ((values prob g u .num i ≤ℤ x) × (x ≤ℤ z))) (num-any u w (j .index) (omega (arith, a .2))) h)
 
     -- a number for each witness: one at which the relation fails
-    abbrev Broken : (ℕ → ℤ) → Constraint → Type 0
+    abbrev Broken : (Term → ℤ) → Constraint → Type 0
     Broken f (member t A) = Unit {0}
     Broken f (nonmember t A) = Unit {0}
     Broken f (same t u) = Unit {0}
     Broken f (different t u) = Unit {0}
     Broken f (relation k A B C) = Unit {0}
-    Broken f (negation k A B C w) = (nameable prob ≤ w) × (holdsAt (denies k) (has (g .members A) (f w)) (has (g .members B) (f w)) (has (g .members C) (f w)) ≡ false)
+    Broken f (negation k A B C w) = (nameable prob ≤ w .index) × (holdsAt (denies k) (has (g .members A) (f w)) (has (g .members B) (f w)) (has (g .members C) (f w)) ≡ false)
     Broken f (exactly A es) = Unit {0}
     Broken f (interval A i j) = Unit {0}
 
     -- a change below the first witness changes nothing
-    broken-at : (e f : ℕ → ℤ) (w : ℕ) → ((u : ℕ) → w ≤ u → e u ≡ f u) → (l : Constraint) → Tied w l → Broken e l → Broken f l
+    broken-at : (e f : Term → ℤ) (w : ℕ) → ((u : ℕ) → w ≤ u → e (term u) ≡ f (term u)) → (l : Constraint) → Tied w l → Broken e l → Broken f l
     broken-at e f w h (member t A) q b = tt
     broken-at e f w h (nonmember t A) q b = tt
     broken-at e f w h (same t u) q b = tt
     broken-at e f w h (different t u) q b = tt
     broken-at e f w h (relation k A B C) q b = tt
-    broken-at e f w h (negation k A B C u) q b = (b .0, subst (λ (x : ℤ). holdsAt (denies k) (has (g .members A) x) (has (g .members B) x) (has (g .members C) x) ≡ false) (h u (omega arith)) (b .1))
+    broken-at e f w h (negation k A B C u) q b = (b .0, subst (λ (x : ℤ). holdsAt (denies k) (has (g .members A) x) (has (g .members B) x) (has (g .members C) x) ≡ false) (h (u .index) (omega arith)) (b .1))
     broken-at e f w h (exactly A es) q b = tt
     broken-at e f w h (interval A i j) q b = tt
 
-    broken-later : (e f : ℕ → ℤ) (ls : List Constraint) (w last : ℕ) → Numbered w last ls → ((u : ℕ) → w ≤ u → e u ≡ f u) → Each (Broken e) ls → Each (Broken f) ls
+    broken-later : (e f : Term → ℤ) (ls : List Constraint) (w last : ℕ) → Numbered w last ls → ((u : ℕ) → w ≤ u → e (term u) ≡ f (term u)) → Each (Broken e) ls → Each (Broken f) ls
     broken-later e f [] w last q h b = tt
     broken-later e f (l ∷ ls) w last q h b = (broken-at e f w h l (q .0) (b .0), broken-later e f ls (w + uses l) last (q .1) (λ u m. h u (omega arith)) (b .1))
 
     -- the first constraint's number, over those for the rest
-    choose-at : (v f : ℕ → ℤ) (w : ℕ) → nameable prob ≤ w → (l : Constraint) → Tied w l → Holds (values prob g v) l → (e : ℕ → ℤ) × Broken e l × ((u : ℕ) → w + uses l ≤ u → f u ≡ e u)
+    choose-at : (v f : Term → ℤ) (w : ℕ) → nameable prob ≤ w → (l : Constraint) → Tied w l → Holds (values prob g v) l → (e : Term → ℤ) × Broken e l × ((u : ℕ) → w + uses l ≤ u → f (term u) ≡ e (term u))
     choose-at v f w m (member t A) q h = (f, tt, λ u _. refl)
     choose-at v f w m (nonmember t A) q h = (f, tt, λ u _. refl)
     choose-at v f w m (same t u) q h = (f, tt, λ u _. refl)
@@ -258,13 +263,13 @@ module _ (prob : Problem) (acc : Accepted prob) where
     choose-at v f w m (relation k A B C) q h = (f, tt, λ u _. refl)
     choose-at v f w m (negation k A B C u) q h =
         let z = breaks (denies k) (g .members A) (g .members B) (g .members C) h in
-        let e : ℕ → ℤ = λ x. cond (eqb x w) (z .0) (f x) in
-        let eu : z .0 ≡ e u = rw (eq-eqb u w q) in
+        let e : Term → ℤ = λ x. cond (eqb (x .index) w) (z .0) (f x) in
+        let eu : z .0 ≡ e u = rw (eq-eqb (u .index) w q) in
         (e, (omega arith, subst (λ (x : ℤ). holdsAt (denies k) (has (g .members A) x) (has (g .members B) x) (has (g .members C) x) ≡ false) eu (z .1)), λ x n. rw (ne-eqb x w (omega arith)))
     choose-at v f w m (exactly A es) q h = (f, tt, λ u _. refl)
     choose-at v f w m (interval A i j) q h = (f, tt, λ u _. refl)
 
-    chosen : (v : ℕ → ℤ) (ls : List Constraint) (w last : ℕ) → nameable prob ≤ w → Numbered w last ls → Each (Holds (values prob g v)) ls → (f : ℕ → ℤ) × Each (Broken f) ls
+    chosen : (v : Term → ℤ) (ls : List Constraint) (w last : ℕ) → nameable prob ≤ w → Numbered w last ls → Each (Holds (values prob g v)) ls → (f : Term → ℤ) × Each (Broken f) ls
     chosen v [] w last m q h = (v, tt)
     chosen v (l ∷ ls) w last m q h =
         let r = chosen v ls (w + uses l) last (omega arith) (q .1) (h .1) in
@@ -272,27 +277,27 @@ module _ (prob : Problem) (acc : Accepted prob) where
         (z .0, (z .1, broken-later (r .0) (z .0) ls (w + uses l) last (q .1) (z .2) (r .1)))
 
     -- a witness has the number chosen for it
-    num-witness : (f : ℕ → ℤ) (w : ℕ) → nameable prob ≤ w → values prob g f .num w ≡ f w
+    num-witness : (f : Term → ℤ) (w : ℕ) → nameable prob ≤ w → values prob g f .num (term w) ≡ f (term w)
     num-witness f w l = rw (le-ltb w K (omega arith), le-ltb w (nameable prob) l)
 
-    broken-good : (f : ℕ → ℤ) (l : Constraint) → Names prob l → Broken f l × Holds (values prob g f) l → Good (values prob g f) l
+    broken-good : (f : Term → ℤ) (l : Constraint) → InScope prob l → Broken f l × Holds (values prob g f) l → Good (values prob g f) l
     broken-good f (member t A) a h = h .1
     broken-good f (nonmember t A) a h = h .1
     broken-good f (same t u) a h = h .1
     broken-good f (different t u) a h = h .1
     broken-good f (relation k A B C) a h = h .1
-    broken-good f (negation k A B C w) a h = rw (num-witness f w (h .0 .0)) (h .0 .1)
+    broken-good f (negation k A B C w) a h = rw (num-witness f (w .index) (h .0 .0)) (h .0 .1)
     broken-good f (exactly A es) a h = h .1
-    broken-good f (interval A i j) a h = span-good (values prob g f) (own f) A i j a (h .1)
+    broken-good f (interval A i j) a h = interval-good (values prob g f) (own f) A i j a (h .1)
 
     -- a solution, with numbers for the witnesses
-    pub witnessed : Satisfies prob g → (f : ℕ → ℤ) × Each (Holds (values prob g f)) (prob .constraints) × Each (Good (values prob g f)) (prob .constraints)
+    pub witnessed : Satisfies prob g → (f : Term → ℤ) × Each (Holds (values prob g f)) (prob .constraints) × Each (Good (values prob g f)) (prob .constraints)
     witnessed h =
         let r = chosen (λ _. pos 0) (prob .constraints) (nameable prob) (termCount prob) (le-refl (nameable prob)) (acc .numbered) h in
-        let f : ℕ → ℤ = r .0 in
-        let hf : Each (Holds (values prob g f)) (prob .constraints) = Each-zip (Names prob) (Holds (values prob g (λ _. pos 0))) (Holds (values prob g f)) (prob .constraints) (λ l a q. holds-any (λ _. pos 0) f l a q) (acc .variables) h in (
+        let f : Term → ℤ = r .0 in
+        let hf : Each (Holds (values prob g f)) (prob .constraints) = Each-zip (InScope prob) (Holds (values prob g (λ _. pos 0))) (Holds (values prob g f)) (prob .constraints) (λ l a q. holds-any (λ _. pos 0) f l a q) (acc .refers) h in (
           f,
           hf,
-          Each-zip (Names prob) (λ l. Broken f l × Holds (values prob g f) l) (Good (values prob g f)) (prob .constraints) (broken-good f) (acc .variables)
+          Each-zip (InScope prob) (λ l. Broken f l × Holds (values prob g f) l) (Good (values prob g f)) (prob .constraints) (broken-good f) (acc .refers)
               (Each-zip (Broken f) (Holds (values prob g f)) (λ l. Broken f l × Holds (values prob g f) l) (prob .constraints) (λ l x y. (x, y)) (r .1) hf),
         )

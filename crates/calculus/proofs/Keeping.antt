@@ -12,8 +12,10 @@ use lib.ListN.{length, getD, set, length-set, length-map, replicate, length-repl
 use lib.Dec.{eqb, ltb}
 use lib.Bits.{bitOr, bitAnd}
 use borrow.Author.Tests.{eqb-true, eqb-false, eq-eqb, ne-eqb, ltb-true, ltb-false}
+use Rattle.calculus.specs.Terms.{Term, SetVar}
+use Rattle.calculus.proofs.AtNumber.{insideAt, outsideAt, addIn, addOut, mergeAt, tornAt, ownsAt, mergeRootsAt, set-eqb}
 use Rattle.calculus.specs.Lists.{bit, upFrom}
-use Rattle.calculus.specs.Branch.{Branch, start, rootAt, insideAt, outsideAt, Fact, In, Out, Same, known, addInside, addOutside, merge, torn, owns, conflictIf, mergeRoots, assert, assertAll}
+use Rattle.calculus.specs.Branch.{Branch, start, rootAt, inside, outside, Fact, In, Out, Same, known, addInside, addOutside, merge, torn, owns, conflictIf, mergeRoots, assert, assertAll}
 use Rattle.calculus.proofs.Bools.{and-l, and-r, and-i, or-cases, or-none-l, or-none-r, not-t, not-f, clash, test}
 use Rattle.calculus.proofs.Masks.{bit-zero}
 use Rattle.calculus.proofs.Truth.{Is}
@@ -36,49 +38,49 @@ or-no : (a b : Bool) → b ≡ false → (a || b) ≡ a
 or-no true b e = refl
 or-no false b e = e
 
-module _ (n : ℕ) (k : List ℕ) (b : Branch) (F : WellFormed n k b) where
-  addInside-fit : (h A : ℕ) → h < n → outsideAt b h A ≡ false → WellFormed n k (addInside b h A)
+module _ (n : ℕ) (k : List Term) (b : Branch) (F : WellFormed n k b) where
+  addInside-fit : (h : ℕ) (A : SetVar) → h < n → outsideAt b h A ≡ false → WellFormed n k (addIn b h A)
   unfolding addInside
   addInside-fit h A l e = record {
     sized = F .sized;
-    sized-in = length-set (b .insides) h (bitOr (getD (b .insides) h 0) (2 ^ A)) ∙ F .sized-in;
+    sized-in = length-set (b .insides) h (bitOr (getD (b .insides) h 0) (2 ^ A .index)) ∙ F .sized-in;
     sized-out = F .sized-out;
     falls = F .falls;
     lone = λ i j p q e. F .lone i j p q (sym (root-addInside b h A i) ∙ e ∙ root-addInside b h A j);
     clean = λ j B. rw (inside-addInside b h A j B (rw (F .sized-in) l), outside-addInside b h A j B)
-        (one-more (insideAt b j B) (outsideAt b j B) (eqb j h && eqb B A) (F .clean j B)
-        (λ p. rw (eqb-true j h (and-l (eqb j h) (eqb B A) p), eqb-true B A (and-r (eqb j h) (eqb B A) p)) e));
+        (one-more (insideAt b j B) (outsideAt b j B) (eqb j h && eqb (B .index) (A .index)) (F .clean j B)
+        (λ p. rw (eqb-true j h (and-l (eqb j h) (eqb (B .index) (A .index)) p), set-eqb B A (and-r (eqb j h) (eqb (B .index) (A .index)) p)) e));
   }
 
-  addOutside-fit : (h A : ℕ) → h < n → insideAt b h A ≡ false → WellFormed n k (addOutside b h A)
+  addOutside-fit : (h : ℕ) (A : SetVar) → h < n → insideAt b h A ≡ false → WellFormed n k (addOut b h A)
   unfolding addOutside
   addOutside-fit h A l e = record {
     sized = F .sized;
     sized-in = F .sized-in;
-    sized-out = length-set (b .outsides) h (bitOr (getD (b .outsides) h 0) (2 ^ A)) ∙ F .sized-out;
+    sized-out = length-set (b .outsides) h (bitOr (getD (b .outsides) h 0) (2 ^ A .index)) ∙ F .sized-out;
     falls = F .falls;
     lone = λ i j p q e. F .lone i j p q (sym (root-addOutside b h A i) ∙ e ∙ root-addOutside b h A j);
     clean = λ j B. rw (inside-addOutside b h A j B, outside-addOutside b h A j B (rw (F .sized-out) l), and-flip (insideAt b j B))
-        (one-more (outsideAt b j B) (insideAt b j B) (eqb j h && eqb B A) (and-flip (outsideAt b j B) (insideAt b j B) ∙ F .clean j B)
-        (λ p. rw (eqb-true j h (and-l (eqb j h) (eqb B A) p), eqb-true B A (and-r (eqb j h) (eqb B A) p)) e));
+        (one-more (outsideAt b j B) (insideAt b j B) (eqb j h && eqb (B .index) (A .index)) (and-flip (outsideAt b j B) (insideAt b j B) ∙ F .clean j B)
+        (λ p. rw (eqb-true j h (and-l (eqb j h) (eqb (B .index) (A .index)) p), set-eqb B A (and-r (eqb j h) (eqb (B .index) (A .index)) p)) e));
   }
 
-  module _ (lo hi : ℕ) (l : lo < hi) (hn : hi < n) (hk : (owns k b lo && owns k b hi) ≡ false) (hl : rootAt b lo ≡ lo) (hu : rootAt b hi ≡ hi) (nt : torn (merge b lo hi) lo ≡ false) where
-    hh : (t : ℕ) → rootAt (merge b lo hi) t ≡ moved lo hi (rootAt b t)
+  module _ (lo hi : ℕ) (l : lo < hi) (hn : hi < n) (hk : (ownsAt k b lo && ownsAt k b hi) ≡ false) (hl : rootAt b lo ≡ lo) (hu : rootAt b hi ≡ hi) (nt : tornAt (mergeAt b lo hi) lo ≡ false) where
+    hh : (t : ℕ) → rootAt (mergeAt b lo hi) t ≡ moved lo hi (rootAt b t)
     hh t = root-merge n k b F lo hi l hn hl hu t
 
-    merge-clean : (j B : ℕ) → (insideAt (merge b lo hi) j B && outsideAt (merge b lo hi) j B) ≡ false
+    merge-clean : (j : ℕ) (B : SetVar) → (insideAt (mergeAt b lo hi) j B && outsideAt (mergeAt b lo hi) j B) ≡ false
     merge-clean j B = go (ℕ-discrete j lo)
       where
-        go : Dec (j ≡ lo) → (insideAt (merge b lo hi) j B && outsideAt (merge b lo hi) j B) ≡ false
-        go (yes e) = rw e (torn-none (merge b lo hi) lo nt B)
+        go : Dec (j ≡ lo) → (insideAt (mergeAt b lo hi) j B && outsideAt (mergeAt b lo hi) j B) ≡ false
+        go (yes e) = rw e (torn-none (mergeAt b lo hi) lo nt B)
         go (no e) = rw (inside-merge b lo hi j B (rw (F .sized-in) (omega arith)), outside-merge b lo hi j B (rw (F .sized-out) (omega arith)), ne-eqb j lo e, or-no (insideAt b j B) false refl, or-no (outsideAt b j B) false refl) (F .clean j B)
 
     -- not both classes hold a constant
     not-both : (i j : ℕ) → Is k i → Is k j → rootAt b i ≡ hi → rootAt b j ≡ lo → ⊥
     not-both i j p q x y = clash (and-i (owning b k lo j q y) (owning b k hi i p x)) hk
 
-    merge-lone : (i j : ℕ) → Is k i → Is k j → rootAt (merge b lo hi) i ≡ rootAt (merge b lo hi) j → i ≡ j
+    merge-lone : (i j : ℕ) → Is k i → Is k j → rootAt (mergeAt b lo hi) i ≡ rootAt (mergeAt b lo hi) j → i ≡ j
     merge-lone i j p q e = go (ℕ-discrete (rootAt b i) hi) (ℕ-discrete (rootAt b j) hi)
       where
         z : moved lo hi (rootAt b i) ≡ moved lo hi (rootAt b j)
@@ -90,7 +92,7 @@ module _ (n : ℕ) (k : List ℕ) (b : Branch) (F : WellFormed n k b) where
         go (no x) (yes y) = absurd (not-both j i q p y (sym (moved-other lo hi (rootAt b i) x) ∙ z ∙ ap (moved lo hi) y ∙ moved-hi lo hi))
         go (no x) (no y) = F .lone i j p q (sym (moved-other lo hi (rootAt b i) x) ∙ z ∙ moved-other lo hi (rootAt b j) y)
 
-    merge-fit : WellFormed n k (merge b lo hi)
+    merge-fit : WellFormed n k (mergeAt b lo hi)
     unfolding merge
     merge-fit = record {
       sized = length-set (b .parents) hi lo ∙ F .sized;
@@ -101,12 +103,12 @@ module _ (n : ℕ) (k : List ℕ) (b : Branch) (F : WellFormed n k b) where
       clean = merge-clean;
     }
 
-  mergeRoots-fit : (t u : ℕ) → t < n → u < n → rootAt b t < rootAt b u → (c : Branch) → mergeRoots k b (rootAt b t) (rootAt b u) ≡ some c → WellFormed n k c
+  mergeRoots-fit : (t u : ℕ) → t < n → u < n → rootAt b t < rootAt b u → (c : Branch) → mergeRootsAt k b (rootAt b t) (rootAt b u) ≡ some c → WellFormed n k c
   mergeRoots-fit t u ht hu l c q =
-      let w = conflictIf-some ((owns k b (rootAt b t) && owns k b (rootAt b u)) || torn (merge b (rootAt b t) (rootAt b u)) (rootAt b t)) (merge b (rootAt b t) (rootAt b u)) c q in
+      let w = conflictIf-some ((ownsAt k b (rootAt b t) && ownsAt k b (rootAt b u)) || tornAt (mergeAt b (rootAt b t) (rootAt b u)) (rootAt b t)) (mergeAt b (rootAt b t) (rootAt b u)) c q in
       subst (WellFormed n k) (w .1)
-      (merge-fit (rootAt b t) (rootAt b u) l (omega (arith, below n k b F u)) (or-none-l (owns k b (rootAt b t) && owns k b (rootAt b u)) (torn (merge b (rootAt b t) (rootAt b u)) (rootAt b t)) (w .0)) (still n k b F t) (still n k b F u)
-      (or-none-r (owns k b (rootAt b t) && owns k b (rootAt b u)) (torn (merge b (rootAt b t) (rootAt b u)) (rootAt b t)) (w .0)))
+      (merge-fit (rootAt b t) (rootAt b u) l (omega (arith, below n k b F u)) (or-none-l (ownsAt k b (rootAt b t) && ownsAt k b (rootAt b u)) (tornAt (mergeAt b (rootAt b t) (rootAt b u)) (rootAt b t)) (w .0)) (still n k b F t) (still n k b F u)
+      (or-none-r (ownsAt k b (rootAt b t) && ownsAt k b (rootAt b u)) (tornAt (mergeAt b (rootAt b t) (rootAt b u)) (rootAt b t)) (w .0)))
 
   eq-fit : (t u : ℕ) → t < n → u < n → (o : Option Branch) → Merges k b t u o → (c : Branch) → o ≡ some c → WellFormed n k c
   eq-fit t u ht hu o (already h) c q = let z : b ≡ c = cc in subst (WellFormed n k) z F
@@ -115,9 +117,9 @@ module _ (n : ℕ) (k : List ℕ) (b : Branch) (F : WellFormed n k b) where
 
   pub assert-fit : (m : ℕ) (f : Fact) → Ranged n m f → (c : Branch) → assert k b f ≡ some c → WellFormed n k c
   assert-fit m (In t A) r c q =
-      let w = conflictIf-some (known b (Out t A)) (addInside b (rootAt b t) A) c q in
-      subst (WellFormed n k) (w .1) (addInside-fit (rootAt b t) A (omega (arith, below n k b F t)) (w .0))
+      let w = conflictIf-some (known b (Out t A)) (addIn b (rootAt b (t .index)) A) c q in
+      subst (WellFormed n k) (w .1) (addInside-fit (rootAt b (t .index)) A (omega (arith, below n k b F (t .index))) (w .0))
   assert-fit m (Out t A) r c q =
-      let w = conflictIf-some (known b (In t A)) (addOutside b (rootAt b t) A) c q in
-      subst (WellFormed n k) (w .1) (addOutside-fit (rootAt b t) A (omega (arith, below n k b F t)) (w .0))
-  assert-fit m (Same t u) r c q = eq-fit t u (r .0) (r .1) (assert k b (Same t u)) (merges k b t u) c q
+      let w = conflictIf-some (known b (In t A)) (addOut b (rootAt b (t .index)) A) c q in
+      subst (WellFormed n k) (w .1) (addOutside-fit (rootAt b (t .index)) A (omega (arith, below n k b F (t .index))) (w .0))
+  assert-fit m (Same t u) r c q = eq-fit (t .index) (u .index) (r .0) (r .1) (assert k b (Same t u)) (merges k b (t .index) (u .index)) c q

@@ -9,17 +9,19 @@ use native.Mathlib.Omega.{arith}
 use lib.ListN.{length, getD, replicate, length-replicate, getD-replicate, List·getD-eq-default}
 use lib.Dec.{eqb}
 use borrow.Author.Tests.{eqb-true, eq-eqb}
+use Rattle.calculus.specs.Terms.{Term, SetVar}
 use Rattle.calculus.specs.Lists.{bit, upFrom, first, Each, Some, here, there, gather}
 use Rattle.calculus.specs.Meaning.{Constraint, member, nonmember, same, different, relation, negation, exactly, interval, entries, Valuation}
 use Rattle.calculus.specs.Relations.{Rule, Literal, Operand, Negation, unequal, denies}
-use Rattle.calculus.specs.Branch.{Branch, start, rootAt, insideAt, outsideAt, Fact, In, Out, Same, known}
-use Rattle.calculus.specs.Search.{Move, over, propagations, splits, places, rootsOf, numbered, Candidate, Next, solved, step, next}
-use Rattle.calculus.specs.Log.{Event, formed, stepped, log, most, height, formsOf, forms}
+use Rattle.calculus.specs.Branch.{Branch, start, rootAt, inside, outside, Fact, In, Out, Same, known}
+use Rattle.calculus.specs.Search.{Move, over, propagations, splits, places, rootsOf, candidates, Candidate, Next, solved, step, next}
+use Rattle.calculus.specs.Log.{Event, formed, stepped, log}
+use Rattle.calculus.proofs.BranchForms.{formsOf}
 use Rattle.calculus.proofs.Bools.{clash, Each-app, Each-imp, Each-zip}
 use Rattle.calculus.proofs.Masks.{bit-zero}
 use Rattle.calculus.proofs.Truth.{truth, Sat, Distinct, eq-eqZ}
 use Rattle.calculus.proofs.Asserting.{WellFormed, below}
-use Rattle.calculus.proofs.Measure.{measure, weight, open?, sumBelow, sum-le, sum-const}
+use Rattle.calculus.proofs.Measure.{measure, weight, undecided, sumBelow, sum-le, sum-const}
 use Rattle.calculus.proofs.RuleLaws.{ConstraintIn, Good}
 use Rattle.calculus.proofs.Stepping.{step-fit, step-sat, solved-full}
 
@@ -39,7 +41,7 @@ formsOf-app [] ys = refl
 formsOf-app (formed b ∷ xs) ys = ap (λ (r : List Branch). b ∷ r) (formsOf-app xs ys)
 formsOf-app (stepped r ∷ xs) ys = formsOf-app xs ys
 
-module _ (n : ℕ) (k : List ℕ) (m : ℕ) (ls : List Constraint) (li : Each (ConstraintIn n m) ls) where
+module _ (n : ℕ) (k : List Term) (m : ℕ) (ls : List Constraint) (li : Each (ConstraintIn n m) ls) where
   -- some child of a list has a form that is satisfied
   some-child : (v : Valuation) (f : Branch → List Event) → ((b : Branch) → WellFormed n k b → Sat v b → Some (Sat v) (formsOf (f b)))
       → (cs : List Branch) → Each (λ c. WellFormed n k c) cs → Some (Sat v) cs → Some (Sat v) (formsOf (gather f cs))
@@ -87,11 +89,11 @@ module _ (n : ℕ) (k : List ℕ) (m : ℕ) (ls : List Constraint) (li : Each (C
       go (suc (suc j)) q = omega (arith, go (suc j) (omega arith))
 
 -- with no term there is no move
-no-over : (s : Operand → ℕ) (rs : List (Rule Literal)) → over [] s rs ≡ []
+no-over : (s : Operand → SetVar) (rs : List (Rule Literal)) → over [] s rs ≡ []
 no-over s [] = refl
 no-over s (r ∷ rs) = no-over s rs
 
-no-entry : (es : List ℕ) → Each (λ e. e < 0) es → es ≡ []
+no-entry : (es : List Term) → Each (λ e. e .index < 0) es → es ≡ []
 no-entry [] e = refl
 no-entry (x ∷ xs) e = absurd (omega (arith, e .0))
 
@@ -115,15 +117,15 @@ no-splits m b (negation K A B C w) r = absurd (omega (arith, r .1))
 no-splits m b (exactly A es) r = refl
 no-splits m b (interval A i j) r = refl
 
-no-numbered : (f : Constraint → List (ℕ × Move)) (i : ℕ) (ls : List Constraint) → Each (λ l. f l ≡ []) ls → numbered f i ls ≡ []
-no-numbered f i [] e = refl
-no-numbered f i (l ∷ ls) e = rw (e .0) (no-numbered f (suc i) ls (e .1))
+no-candidates : (f : Constraint → List (Term × Move)) (i : ℕ) (ls : List Constraint) → Each (λ l. f l ≡ []) ls → candidates f i ls ≡ []
+no-candidates f i [] e = refl
+no-candidates f i (l ∷ ls) e = rw (e .0) (no-candidates f (suc i) ls (e .1))
 
-no-next : (k : List ℕ) (m : ℕ) (ls : List Constraint) → Each (ConstraintIn 0 m) ls → (b : Branch) → next 0 k ls b ≡ solved
+no-next : (k : List Term) (m : ℕ) (ls : List Constraint) → Each (ConstraintIn 0 m) ls → (b : Branch) → next 0 k ls b ≡ solved
 no-next k m ls li b =
-    rw (no-numbered (propagations [] b) 0 ls (Each-imp (ConstraintIn 0 m) (λ l. propagations [] b l ≡ []) ls (no-propagations m b) li), no-numbered (splits [] b) 0 ls (Each-imp (ConstraintIn 0 m) (λ l. splits [] b l ≡ []) ls (no-splits m b) li))
+    rw (no-candidates (propagations [] b) 0 ls (Each-imp (ConstraintIn 0 m) (λ l. propagations [] b l ≡ []) ls (no-propagations m b) li), no-candidates (splits [] b) 0 ls (Each-imp (ConstraintIn 0 m) (λ l. splits [] b l ≡ []) ls (no-splits m b) li))
 
-module _ (n : ℕ) (k : List ℕ) (m : ℕ) (ls : List Constraint) (li : Each (ConstraintIn n m) ls) where
+module _ (n : ℕ) (k : List Term) (m : ℕ) (ls : List Constraint) (li : Each (ConstraintIn n m) ls) where
   pub at-zero : (b : Branch) → WellFormed n k b → measure n m b ≤ 0 → next n k ls b ≡ solved
   at-zero b F l = go n refl
     where
@@ -139,29 +141,3 @@ module _ (n : ℕ) (k : List ℕ) (m : ℕ) (ls : List Constraint) (li : Each (C
       go solved q ih = rw (q, log) ((F, q), tt)
       go (step r cs) q ih = rw (q, log) (all-children n k m ls li (log n k ls fuel) fuel ih cs
           (Each-imp (λ c. WellFormed n k c × (measure n m c < measure n m b)) (λ c. WellFormed n k c × (measure n m c ≤ fuel)) cs (λ c z. (z .0, omega (arith, z .1))) (step-fit n k m ls li b F r cs q)))
-
-  -- no path is longer than the measure
-  most-le : (f : Branch → ℕ) (x : ℕ) (cs : List Branch) → Each (λ c. f c ≤ x) cs → most n k ls (map f cs) ≤ x
-  most-le f x [] e = zero-le
-  most-le f x (c ∷ cs) e = omega (arith, e .0, most-le f x cs (e .1))
-
-  pub height-le : (fuel : ℕ) (b : Branch) → WellFormed n k b → height n k ls fuel b ≤ measure n m b
-  height-le zero b F = zero-le
-  height-le (suc fuel) b F = go (next n k ls b) refl (height-le fuel)
-    where
-      pos : (r : List ℕ) (cs : List Branch) → next n k ls b ≡ step r cs → 0 < measure n m b
-      pos r cs q = at-n n refl
-        where
-          at-n : (j : ℕ) → n ≡ j → 0 < measure n m b
-          at-n zero e = let z : next n k ls b ≡ solved = subst (λ (j : ℕ). Each (ConstraintIn j m) ls → next j k ls b ≡ solved) (sym e) (λ q. no-next k m ls q b) li in let w : false ≡ true = cc in absurd (false≢true w)
-          at-n (suc j) e = some-class n k m ls li b F (omega arith)
-
-      go : (x : Next) → next n k ls b ≡ x → ((b : Branch) → WellFormed n k b → height n k ls fuel b ≤ measure n m b) → height n k ls (suc fuel) b ≤ measure n m b
-      go solved q ih = rw (q, height) zero-le
-      go (step r cs) q ih = rw (q, height)
-          (omega (
-            arith,
-            pos r cs q,
-            most-le (height n k ls fuel) (Prim.Native.Nat.pred (measure n m b)) cs
-                (Each-imp (λ c. WellFormed n k c × (measure n m c < measure n m b)) (λ c. height n k ls fuel c ≤ Prim.Native.Nat.pred (measure n m b)) cs (λ c z. omega (arith, ih c (z .0), z .1)) (step-fit n k m ls li b F r cs q)),
-          ))

@@ -11,16 +11,15 @@ use native.Mathlib.Nat.{le-refl, suc-mul}
 use lib.ListN.{length, getD}
 use lib.Dec.{eqb, ltb}
 use borrow.Author.Tests.{eqb-true, eqb-false, eq-eqb, ne-eqb, ltb-true, ltb-false}
+use Rattle.calculus.specs.Terms.{Term, SetVar, term, setVar}
+use Rattle.calculus.proofs.AtNumber.{insideAt, outsideAt, addIn, addOut, mergeAt, tornAt, ownsAt, mergeRootsAt, set-eqb}
 use Rattle.calculus.specs.Lists.{all}
-use Rattle.calculus.specs.Branch.{Branch, rootAt, insideAt, outsideAt, Fact, In, Out, Same, known, addInside, addOutside, merge, torn, owns, conflictIf, mergeRoots, assert, assertAll}
+pub use Rattle.calculus.specs.Invariants.{sumBelow, undecided, weight, measure}
+use Rattle.calculus.specs.Branch.{Branch, rootAt, inside, outside, Fact, In, Out, Same, known, addInside, addOutside, merge, torn, owns, conflictIf, mergeRoots, assert, assertAll}
 use Rattle.calculus.proofs.Bools.{and-l, and-r, and-i, or-cases, or-l, or-r, or-none-l, or-none-r, clash, test, all-cong}
 use Rattle.calculus.proofs.Walk.{moved, moved-hi, moved-other}
 use Rattle.calculus.proofs.Asserting.{WellFormed, Ranged, Merges, already, upper, lower, merges, inside-addInside, outside-addInside, root-addInside, inside-addOutside, outside-addOutside, root-addOutside, inside-merge, outside-merge, below, still, root-merge, conflictIf-some, root-in, in-ins, in-outs}
 use Rattle.calculus.proofs.Keeping.{assert-fit}
-
-abbrev pub sumBelow : ℕ → (ℕ → ℕ) → ℕ
-sumBelow zero f = 0
-sumBelow (suc n) f = f n + sumBelow n f
 
 pub sum-le : (n : ℕ) (f g : ℕ → ℕ) → ((t : ℕ) → t < n → f t ≤ g t) → sumBelow n f ≤ sumBelow n g
 sum-le zero f g h = zero-le
@@ -38,22 +37,11 @@ pub sum-const : (n c : ℕ) (f : ℕ → ℕ) → ((t : ℕ) → t < n → f t �
 sum-const zero c f h = omega arith
 sum-const (suc n) c f h = omega (arith, h n (omega arith), sum-const n c f (λ t l. h t (omega arith)), suc-mul n c)
 
--- 1 where it is undecided whether the class of h is in A
-abbrev pub open? : Branch → ℕ → ℕ → ℕ
-open? b h A = cond (insideAt b h A || outsideAt b h A) 0 1
-
-abbrev pub weight : ℕ → Branch → ℕ → ℕ
-weight m b t = cond (eqb (rootAt b t) t) (suc (sumBelow m (open? b t))) 0
-
--- classes, and undecided pairs of a class and one of m sets
-abbrev pub measure : ℕ → ℕ → Branch → ℕ
-measure n m b = sumBelow n (weight m b)
-
 -- c knows what b knows of the class of t
 abbrev Grows : Branch → Branch → ℕ → Type 0
-Grows b c t = (A : ℕ) → (insideAt b t A || outsideAt b t A) ≡ true → (insideAt c t A || outsideAt c t A) ≡ true
+Grows b c t = (A : SetVar) → (insideAt b t A || outsideAt b t A) ≡ true → (insideAt c t A || outsideAt c t A) ≡ true
 
-open-le : (b c : Branch) (t A : ℕ) → ((insideAt b t A || outsideAt b t A) ≡ true → (insideAt c t A || outsideAt c t A) ≡ true) → open? c t A ≤ open? b t A
+open-le : (b c : Branch) (t : ℕ) (A : SetVar) → ((insideAt b t A || outsideAt b t A) ≡ true → (insideAt c t A || outsideAt c t A) ≡ true) → undecided c t (A .index) ≤ undecided b t (A .index)
 open-le b c t A = go (insideAt b t A || outsideAt b t A) (insideAt c t A || outsideAt c t A)
   where
     go : (x y : Bool) → (x ≡ true → y ≡ true) → cond y 0 1 ≤ cond x 0 1
@@ -67,73 +55,73 @@ cond-le false y a b f h = zero-le
 
 weight-le : (m : ℕ) (b c : Branch) (t : ℕ) → (rootAt c t ≡ t → rootAt b t ≡ t) → Grows b c t → weight m c t ≤ weight m b t
 weight-le m b c t f g =
-    cond-le (eqb (rootAt c t) t) (eqb (rootAt b t) t) (suc (sumBelow m (open? c t))) (suc (sumBelow m (open? b t)))
+    cond-le (eqb (rootAt c t) t) (eqb (rootAt b t) t) (suc (sumBelow m (undecided c t))) (suc (sumBelow m (undecided b t)))
     (λ e. eq-eqb (rootAt b t) t (f (eqb-true (rootAt c t) t e)))
-    (suc-le-suc (sum-le m (open? c t) (open? b t) (λ A l. open-le b c t A (g A))))
+    (suc-le-suc (sum-le m (undecided c t) (undecided b t) (λ A l. open-le b c t (setVar A) (g (setVar A)))))
 
 -- at a root whose fact on A is decided anew
-weight-lt : (m : ℕ) (b c : Branch) (t : ℕ) → rootAt c t ≡ t → rootAt b t ≡ t → Grows b c t → (A : ℕ) → A < m → (insideAt b t A || outsideAt b t A) ≡ false → (insideAt c t A || outsideAt c t A) ≡ true → weight m c t < weight m b t
+weight-lt : (m : ℕ) (b c : Branch) (t : ℕ) → rootAt c t ≡ t → rootAt b t ≡ t → Grows b c t → (A : SetVar) → A .index < m → (insideAt b t A || outsideAt b t A) ≡ false → (insideAt c t A || outsideAt c t A) ≡ true → weight m c t < weight m b t
 weight-lt m b c t hc hb g A l x y =
     rw (eq-eqb (rootAt c t) t hc, eq-eqb (rootAt b t) t hb)
-    (suc-le-suc (sum-lt m (open? c t) (open? b t) (λ B l′. open-le b c t B (g B)) A l (rw (x, y) (le-refl 1))))
+    (suc-le-suc (sum-lt m (undecided c t) (undecided b t) (λ B l′. open-le b c t (setVar B) (g (setVar B))) (A .index) l (rw (x, y) (le-refl 1))))
 
-module _ (n : ℕ) (k : List ℕ) (m : ℕ) (b : Branch) (F : WellFormed n k b) where
+module _ (n : ℕ) (k : List Term) (m : ℕ) (b : Branch) (F : WellFormed n k b) where
   -- put and bar
-  addInside-grows : (h A t : ℕ) → h < n → Grows b (addInside b h A) t
+  addInside-grows : (h : ℕ) (A : SetVar) (t : ℕ) → h < n → Grows b (addIn b h A) t
   addInside-grows h A t l B e = rw (inside-addInside b h A t B (rw (F .sized-in) l), outside-addInside b h A t B) (go (or-cases (insideAt b t B) (outsideAt b t B) e))
     where
-      go : (insideAt b t B ≡ true) ⊎ (outsideAt b t B ≡ true) → ((insideAt b t B || (eqb t h && eqb B A)) || outsideAt b t B) ≡ true
+      go : (insideAt b t B ≡ true) ⊎ (outsideAt b t B ≡ true) → ((insideAt b t B || (eqb t h && eqb (B .index) (A .index))) || outsideAt b t B) ≡ true
       go (inl p) = rw p
-      go (inr p) = or-r (insideAt b t B || (eqb t h && eqb B A)) p
+      go (inr p) = or-r (insideAt b t B || (eqb t h && eqb (B .index) (A .index))) p
 
-  addOutside-grows : (h A t : ℕ) → h < n → Grows b (addOutside b h A) t
+  addOutside-grows : (h : ℕ) (A : SetVar) (t : ℕ) → h < n → Grows b (addOut b h A) t
   addOutside-grows h A t l B e = rw (outside-addOutside b h A t B (rw (F .sized-out) l), inside-addOutside b h A t B) (go (or-cases (insideAt b t B) (outsideAt b t B) e))
     where
-      go : (insideAt b t B ≡ true) ⊎ (outsideAt b t B ≡ true) → (insideAt b t B || (outsideAt b t B || (eqb t h && eqb B A))) ≡ true
+      go : (insideAt b t B ≡ true) ⊎ (outsideAt b t B ≡ true) → (insideAt b t B || (outsideAt b t B || (eqb t h && eqb (B .index) (A .index)))) ≡ true
       go (inl p) = rw p
-      go (inr p) = or-r (insideAt b t B) (or-l (eqb t h && eqb B A) p)
+      go (inr p) = or-r (insideAt b t B) (or-l (eqb t h && eqb (B .index) (A .index)) p)
 
-  addInside-le : (h A : ℕ) → h < n → measure n m (addInside b h A) ≤ measure n m b
-  addInside-le h A l = sum-le n (weight m (addInside b h A)) (weight m b) (λ t q. weight-le m b (addInside b h A) t (λ e. sym (root-addInside b h A t) ∙ e) (addInside-grows h A t l))
+  addInside-le : (h : ℕ) (A : SetVar) → h < n → measure n m (addIn b h A) ≤ measure n m b
+  addInside-le h A l = sum-le n (weight m (addIn b h A)) (weight m b) (λ t q. weight-le m b (addIn b h A) t (λ e. sym (root-addInside b h A t) ∙ e) (addInside-grows h A t l))
 
-  addOutside-le : (h A : ℕ) → h < n → measure n m (addOutside b h A) ≤ measure n m b
-  addOutside-le h A l = sum-le n (weight m (addOutside b h A)) (weight m b) (λ t q. weight-le m b (addOutside b h A) t (λ e. sym (root-addOutside b h A t) ∙ e) (addOutside-grows h A t l))
+  addOutside-le : (h : ℕ) (A : SetVar) → h < n → measure n m (addOut b h A) ≤ measure n m b
+  addOutside-le h A l = sum-le n (weight m (addOut b h A)) (weight m b) (λ t q. weight-le m b (addOut b h A) t (λ e. sym (root-addOutside b h A t) ∙ e) (addOutside-grows h A t l))
 
-  addInside-lt : (h A : ℕ) → h < n → A < m → rootAt b h ≡ h → insideAt b h A ≡ false → outsideAt b h A ≡ false → measure n m (addInside b h A) < measure n m b
+  addInside-lt : (h : ℕ) (A : SetVar) → h < n → A .index < m → rootAt b h ≡ h → insideAt b h A ≡ false → outsideAt b h A ≡ false → measure n m (addIn b h A) < measure n m b
   addInside-lt h A l la e i o =
-      sum-lt n (weight m (addInside b h A)) (weight m b) (λ t q. weight-le m b (addInside b h A) t (λ e. sym (root-addInside b h A t) ∙ e) (addInside-grows h A t l)) h l
-      (weight-lt m b (addInside b h A) h (root-addInside b h A h ∙ e) e (addInside-grows h A h l) A la (rw (i, o)) (rw (inside-addInside b h A h A (rw (F .sized-in) l), i, eq-eqb h h refl, eq-eqb A A refl)))
+      sum-lt n (weight m (addIn b h A)) (weight m b) (λ t q. weight-le m b (addIn b h A) t (λ e. sym (root-addInside b h A t) ∙ e) (addInside-grows h A t l)) h l
+      (weight-lt m b (addIn b h A) h (root-addInside b h A h ∙ e) e (addInside-grows h A h l) A la (rw (i, o)) (rw (inside-addInside b h A h A (rw (F .sized-in) l), i, eq-eqb h h refl, eq-eqb (A .index) (A .index) refl)))
 
-  addOutside-lt : (h A : ℕ) → h < n → A < m → rootAt b h ≡ h → insideAt b h A ≡ false → outsideAt b h A ≡ false → measure n m (addOutside b h A) < measure n m b
+  addOutside-lt : (h : ℕ) (A : SetVar) → h < n → A .index < m → rootAt b h ≡ h → insideAt b h A ≡ false → outsideAt b h A ≡ false → measure n m (addOut b h A) < measure n m b
   addOutside-lt h A l la e i o =
-      sum-lt n (weight m (addOutside b h A)) (weight m b) (λ t q. weight-le m b (addOutside b h A) t (λ e. sym (root-addOutside b h A t) ∙ e) (addOutside-grows h A t l)) h l
-      (weight-lt m b (addOutside b h A) h (root-addOutside b h A h ∙ e) e (addOutside-grows h A h l) A la (rw (i, o)) (or-r (insideAt (addOutside b h A) h A) (rw (outside-addOutside b h A h A (rw (F .sized-out) l), o, eq-eqb h h refl, eq-eqb A A refl))))
+      sum-lt n (weight m (addOut b h A)) (weight m b) (λ t q. weight-le m b (addOut b h A) t (λ e. sym (root-addOutside b h A t) ∙ e) (addOutside-grows h A t l)) h l
+      (weight-lt m b (addOut b h A) h (root-addOutside b h A h ∙ e) e (addOutside-grows h A h l) A la (rw (i, o)) (or-r (insideAt (addOut b h A) h A) (rw (outside-addOutside b h A h A (rw (F .sized-out) l), o, eq-eqb h h refl, eq-eqb (A .index) (A .index) refl))))
 
-  merge-lt : (lo hi : ℕ) → lo < hi → hi < n → rootAt b lo ≡ lo → rootAt b hi ≡ hi → measure n m (merge b lo hi) < measure n m b
+  merge-lt : (lo hi : ℕ) → lo < hi → hi < n → rootAt b lo ≡ lo → rootAt b hi ≡ hi → measure n m (mergeAt b lo hi) < measure n m b
   merge-lt lo hi l hn el eh =
-      sum-lt n (weight m (merge b lo hi)) (weight m b) (λ t q. weight-le m b (merge b lo hi) t (back t) (grows t)) hi hn
+      sum-lt n (weight m (mergeAt b lo hi)) (weight m b) (λ t q. weight-le m b (mergeAt b lo hi) t (back t) (grows t)) hi hn
       (rw (hh hi, eh, moved-hi lo hi, ne-eqb lo hi (omega arith), eq-eqb hi hi refl) (suc-le-suc zero-le))
     where
-      hh : (t : ℕ) → rootAt (merge b lo hi) t ≡ moved lo hi (rootAt b t)
+      hh : (t : ℕ) → rootAt (mergeAt b lo hi) t ≡ moved lo hi (rootAt b t)
       hh t = root-merge n k b F lo hi l hn el eh t
 
-      back : (t : ℕ) → rootAt (merge b lo hi) t ≡ t → rootAt b t ≡ t
+      back : (t : ℕ) → rootAt (mergeAt b lo hi) t ≡ t → rootAt b t ≡ t
       back t e = go (ℕ-discrete (rootAt b t) hi)
         where
           go : Dec (rootAt b t ≡ hi) → rootAt b t ≡ t
           go (yes p) = let z : lo ≡ t = sym (moved-hi lo hi) ∙ ap (moved lo hi) (sym p) ∙ sym (hh t) ∙ e in absurd (let w : lo ≡ hi = sym el ∙ ap (rootAt b) z ∙ p in omega arith)
           go (no p) = sym (moved-other lo hi (rootAt b t) p) ∙ sym (hh t) ∙ e
 
-      grows : (t : ℕ) → Grows b (merge b lo hi) t
+      grows : (t : ℕ) → Grows b (mergeAt b lo hi) t
       grows t B e = rw (inside-merge b lo hi t B (rw (F .sized-in) (omega arith)), outside-merge b lo hi t B (rw (F .sized-out) (omega arith))) (go (or-cases (insideAt b t B) (outsideAt b t B) e))
         where
           go : (insideAt b t B ≡ true) ⊎ (outsideAt b t B ≡ true) → ((insideAt b t B || (eqb t lo && insideAt b hi B)) || (outsideAt b t B || (eqb t lo && outsideAt b hi B))) ≡ true
           go (inl p) = rw p
           go (inr p) = or-r (insideAt b t B || (eqb t lo && insideAt b hi B)) (or-l (eqb t lo && outsideAt b hi B) p)
 
-  mergeRoots-lt : (t u : ℕ) → t < n → u < n → rootAt b t < rootAt b u → (c : Branch) → mergeRoots k b (rootAt b t) (rootAt b u) ≡ some c → measure n m c < measure n m b
+  mergeRoots-lt : (t u : ℕ) → t < n → u < n → rootAt b t < rootAt b u → (c : Branch) → mergeRootsAt k b (rootAt b t) (rootAt b u) ≡ some c → measure n m c < measure n m b
   mergeRoots-lt t u ht hu l c q =
-      subst (λ (d : Branch). measure n m d < measure n m b) (conflictIf-some ((owns k b (rootAt b t) && owns k b (rootAt b u)) || torn (merge b (rootAt b t) (rootAt b u)) (rootAt b t)) (merge b (rootAt b t) (rootAt b u)) c q .1)
+      subst (λ (d : Branch). measure n m d < measure n m b) (conflictIf-some ((ownsAt k b (rootAt b t) && ownsAt k b (rootAt b u)) || tornAt (mergeAt b (rootAt b t) (rootAt b u)) (rootAt b t)) (mergeAt b (rootAt b t) (rootAt b u)) c q .1)
       (merge-lt (rootAt b t) (rootAt b u) l (root-in n k m b F u hu) (still n k b F t) (still n k b F u))
 
   eq-lt : (t u : ℕ) → t < n → u < n → (o : Option Branch) → Merges k b t u o → (c : Branch) → o ≡ some c → eqb (rootAt b t) (rootAt b u) ≡ false → measure n m c < measure n m b
@@ -144,12 +132,12 @@ module _ (n : ℕ) (k : List ℕ) (m : ℕ) (b : Branch) (F : WellFormed n k b) 
   -- a fact that was not known
   pub assert-falls : (f : Fact) → Ranged n m f → known b f ≡ false → (c : Branch) → assert k b f ≡ some c → measure n m c < measure n m b
   assert-falls (In t A) r e c q =
-      let w = conflictIf-some (known b (Out t A)) (addInside b (rootAt b t) A) c q in
-      subst (λ (d : Branch). measure n m d < measure n m b) (w .1) (addInside-lt (rootAt b t) A (root-in n k m b F t (r .0)) (r .1) (still n k b F t) e (w .0))
+      let w = conflictIf-some (known b (Out t A)) (addIn b (rootAt b (t .index)) A) c q in
+      subst (λ (d : Branch). measure n m d < measure n m b) (w .1) (addInside-lt (rootAt b (t .index)) A (root-in n k m b F (t .index) (r .0)) (r .1) (still n k b F (t .index)) e (w .0))
   assert-falls (Out t A) r e c q =
-      let w = conflictIf-some (known b (In t A)) (addOutside b (rootAt b t) A) c q in
-      subst (λ (d : Branch). measure n m d < measure n m b) (w .1) (addOutside-lt (rootAt b t) A (root-in n k m b F t (r .0)) (r .1) (still n k b F t) (w .0) e)
-  assert-falls (Same t u) r e c q = eq-lt t u (r .0) (r .1) (assert k b (Same t u)) (merges k b t u) c q e
+      let w = conflictIf-some (known b (In t A)) (addOut b (rootAt b (t .index)) A) c q in
+      subst (λ (d : Branch). measure n m d < measure n m b) (w .1) (addOutside-lt (rootAt b (t .index)) A (root-in n k m b F (t .index) (r .0)) (r .1) (still n k b F (t .index)) (w .0) e)
+  assert-falls (Same t u) r e c q = eq-lt (t .index) (u .index) (r .0) (r .1) (assert k b (Same t u)) (merges k b (t .index) (u .index)) c q e
 
   -- a fact that was known changes nothing that the branch knows
   or-absorb : (a p : Bool) → (p ≡ true → a ≡ true) → (a || p) ≡ a
@@ -157,19 +145,19 @@ module _ (n : ℕ) (k : List ℕ) (m : ℕ) (b : Branch) (F : WellFormed n k b) 
   or-absorb false true f = sym (f refl)
   or-absorb false false f = refl
 
-  addInside-same : (t A : ℕ) → t < n → known b (In t A) ≡ true → (g : Fact) → known (addInside b (rootAt b t) A) g ≡ known b g
-  addInside-same t A l e (In u B) = rw (root-addInside b (rootAt b t) A u, inside-addInside b (rootAt b t) A (rootAt b u) B (in-ins n k m b F t l))
-      (or-absorb (insideAt b (rootAt b u) B) (eqb (rootAt b u) (rootAt b t) && eqb B A)
-      (λ p. rw (eqb-true (rootAt b u) (rootAt b t) (and-l (eqb (rootAt b u) (rootAt b t)) (eqb B A) p), eqb-true B A (and-r (eqb (rootAt b u) (rootAt b t)) (eqb B A) p)) e))
-  addInside-same t A l e (Out u B) = rw (root-addInside b (rootAt b t) A u, outside-addInside b (rootAt b t) A (rootAt b u) B)
-  addInside-same t A l e (Same x y) = rw (root-addInside b (rootAt b t) A x, root-addInside b (rootAt b t) A y)
+  addInside-same : (t : ℕ) (A : SetVar) → t < n → known b (In (term t) A) ≡ true → (g : Fact) → known (addIn b (rootAt b t) A) g ≡ known b g
+  addInside-same t A l e (In u B) = rw (root-addInside b (rootAt b t) A (u .index), inside-addInside b (rootAt b t) A (rootAt b (u .index)) B (in-ins n k m b F t l))
+      (or-absorb (insideAt b (rootAt b (u .index)) B) (eqb (rootAt b (u .index)) (rootAt b t) && eqb (B .index) (A .index))
+      (λ p. rw (eqb-true (rootAt b (u .index)) (rootAt b t) (and-l (eqb (rootAt b (u .index)) (rootAt b t)) (eqb (B .index) (A .index)) p), set-eqb B A (and-r (eqb (rootAt b (u .index)) (rootAt b t)) (eqb (B .index) (A .index)) p)) e))
+  addInside-same t A l e (Out u B) = rw (root-addInside b (rootAt b t) A (u .index), outside-addInside b (rootAt b t) A (rootAt b (u .index)) B)
+  addInside-same t A l e (Same x y) = rw (root-addInside b (rootAt b t) A (x .index), root-addInside b (rootAt b t) A (y .index))
 
-  addOutside-same : (t A : ℕ) → t < n → known b (Out t A) ≡ true → (g : Fact) → known (addOutside b (rootAt b t) A) g ≡ known b g
-  addOutside-same t A l e (Out u B) = rw (root-addOutside b (rootAt b t) A u, outside-addOutside b (rootAt b t) A (rootAt b u) B (in-outs n k m b F t l))
-      (or-absorb (outsideAt b (rootAt b u) B) (eqb (rootAt b u) (rootAt b t) && eqb B A)
-      (λ p. rw (eqb-true (rootAt b u) (rootAt b t) (and-l (eqb (rootAt b u) (rootAt b t)) (eqb B A) p), eqb-true B A (and-r (eqb (rootAt b u) (rootAt b t)) (eqb B A) p)) e))
-  addOutside-same t A l e (In u B) = rw (root-addOutside b (rootAt b t) A u, inside-addOutside b (rootAt b t) A (rootAt b u) B)
-  addOutside-same t A l e (Same x y) = rw (root-addOutside b (rootAt b t) A x, root-addOutside b (rootAt b t) A y)
+  addOutside-same : (t : ℕ) (A : SetVar) → t < n → known b (Out (term t) A) ≡ true → (g : Fact) → known (addOut b (rootAt b t) A) g ≡ known b g
+  addOutside-same t A l e (Out u B) = rw (root-addOutside b (rootAt b t) A (u .index), outside-addOutside b (rootAt b t) A (rootAt b (u .index)) B (in-outs n k m b F t l))
+      (or-absorb (outsideAt b (rootAt b (u .index)) B) (eqb (rootAt b (u .index)) (rootAt b t) && eqb (B .index) (A .index))
+      (λ p. rw (eqb-true (rootAt b (u .index)) (rootAt b t) (and-l (eqb (rootAt b (u .index)) (rootAt b t)) (eqb (B .index) (A .index)) p), set-eqb B A (and-r (eqb (rootAt b (u .index)) (rootAt b t)) (eqb (B .index) (A .index)) p)) e))
+  addOutside-same t A l e (In u B) = rw (root-addOutside b (rootAt b t) A (u .index), inside-addOutside b (rootAt b t) A (rootAt b (u .index)) B)
+  addOutside-same t A l e (Same x y) = rw (root-addOutside b (rootAt b t) A (x .index), root-addOutside b (rootAt b t) A (y .index))
 
   eq-same : (t u : ℕ) → rootAt b t ≡ rootAt b u → (o : Option Branch) → Merges k b t u o → (c : Branch) → o ≡ some c → b ≡ c
   eq-same t u h o (already _) c q = cc
@@ -177,14 +165,14 @@ module _ (n : ℕ) (k : List ℕ) (m : ℕ) (b : Branch) (F : WellFormed n k b) 
   eq-same t u h o (lower l) c q = absurd (omega arith)
 
   pub assert-same : (f : Fact) → Ranged n m f → known b f ≡ true → (c : Branch) → assert k b f ≡ some c → (g : Fact) → known c g ≡ known b g
-  assert-same (In t A) r e c q g = subst (λ (d : Branch). known d g ≡ known b g) (conflictIf-some (known b (Out t A)) (addInside b (rootAt b t) A) c q .1) (addInside-same t A (r .0) e g)
-  assert-same (Out t A) r e c q g = subst (λ (d : Branch). known d g ≡ known b g) (conflictIf-some (known b (In t A)) (addOutside b (rootAt b t) A) c q .1) (addOutside-same t A (r .0) e g)
-  assert-same (Same t u) r e c q g = subst (λ (d : Branch). known d g ≡ known b g) (eq-same t u (eqb-true (rootAt b t) (rootAt b u) e) (assert k b (Same t u)) (merges k b t u) c q) refl
+  assert-same (In t A) r e c q g = subst (λ (d : Branch). known d g ≡ known b g) (conflictIf-some (known b (Out t A)) (addIn b (rootAt b (t .index)) A) c q .1) (addInside-same (t .index) A (r .0) e g)
+  assert-same (Out t A) r e c q g = subst (λ (d : Branch). known d g ≡ known b g) (conflictIf-some (known b (In t A)) (addOut b (rootAt b (t .index)) A) c q .1) (addOutside-same (t .index) A (r .0) e g)
+  assert-same (Same t u) r e c q g = subst (λ (d : Branch). known d g ≡ known b g) (eq-same (t .index) (u .index) (eqb-true (rootAt b (t .index)) (rootAt b (u .index)) e) (assert k b (Same t u)) (merges k b (t .index) (u .index)) c q) refl
 
   assert-le-known : (f : Fact) → Ranged n m f → known b f ≡ true → (c : Branch) → assert k b f ≡ some c → measure n m c ≤ measure n m b
-  assert-le-known (In t A) r e c q = subst (λ (d : Branch). measure n m d ≤ measure n m b) (conflictIf-some (known b (Out t A)) (addInside b (rootAt b t) A) c q .1) (addInside-le (rootAt b t) A (root-in n k m b F t (r .0)))
-  assert-le-known (Out t A) r e c q = subst (λ (d : Branch). measure n m d ≤ measure n m b) (conflictIf-some (known b (In t A)) (addOutside b (rootAt b t) A) c q .1) (addOutside-le (rootAt b t) A (root-in n k m b F t (r .0)))
-  assert-le-known (Same t u) r e c q = subst (λ (d : Branch). measure n m d ≤ measure n m b) (eq-same t u (eqb-true (rootAt b t) (rootAt b u) e) (assert k b (Same t u)) (merges k b t u) c q) (le-refl (measure n m b))
+  assert-le-known (In t A) r e c q = subst (λ (d : Branch). measure n m d ≤ measure n m b) (conflictIf-some (known b (Out t A)) (addIn b (rootAt b (t .index)) A) c q .1) (addInside-le (rootAt b (t .index)) A (root-in n k m b F (t .index) (r .0)))
+  assert-le-known (Out t A) r e c q = subst (λ (d : Branch). measure n m d ≤ measure n m b) (conflictIf-some (known b (In t A)) (addOut b (rootAt b (t .index)) A) c q .1) (addOutside-le (rootAt b (t .index)) A (root-in n k m b F (t .index) (r .0)))
+  assert-le-known (Same t u) r e c q = subst (λ (d : Branch). measure n m d ≤ measure n m b) (eq-same (t .index) (u .index) (eqb-true (rootAt b (t .index)) (rootAt b (u .index)) e) (assert k b (Same t u)) (merges k b (t .index) (u .index)) c q) (le-refl (measure n m b))
 
   pub assert-le : (f : Fact) → Ranged n m f → (c : Branch) → assert k b f ≡ some c → measure n m c ≤ measure n m b
   assert-le f r c q = go (test (known b f))

@@ -13,28 +13,31 @@ use lib.Seq.{take-at, drop-at}
 use lib.Dec.{leb, eqb}
 use lib.IntN.{ℤ, pos}
 use borrow.Author.Tests.{eqb-true}
-use Rattle.calculus.specs.Lists.{bit, upFrom, keep, Each, Some, here, there, gather}
+use Rattle.calculus.specs.Terms.{Term, SetVar, term, setVar, termsFrom}
+use Rattle.calculus.specs.Lists.{bit, keep, Each, Some, here, there, gather}
 use Rattle.calculus.specs.Meaning.{Constraint, Valuation, Holds}
-use Rattle.calculus.specs.Branch.{Branch, start, rootAt, insideAt, outsideAt, Fact, assert}
+use Rattle.calculus.specs.Branch.{Branch, start, rootAt, root, inside, outside, Fact, assert}
 use Rattle.calculus.specs.Search.{Next, solved, step, next, rootsOf}
-use Rattle.calculus.specs.Log.{Event, formed, stepped, log, formsOf}
-use Rattle.calculus.specs.Problem.{Problem, termCount, constantTerms, Assignment, values, Satisfies, AgreesBranch, Accepted, Names, classValue, branchModel, problemForms}
-use Rattle.calculus.specs.Run.{recordFrom, recordOf, Tally, tally, run, listedForms, AgreesRecord, SatisfiesForm}
+use Rattle.calculus.specs.Log.{Event, formed, stepped, log}
+use Rattle.calculus.specs.Problem.{Problem, constantCount, termCount, setCount, constantTerms, Assignment, values, Satisfies, Valid}
+use Rattle.calculus.proofs.BranchForms.{formsOf, problemForms, AgreesBranch, branchNumber, branchModel}
+use Rattle.calculus.specs.Run.{Tally, tally, run}
+use Rattle.calculus.specs.Forms.{recordFrom, recordOf, listedForms, Agrees, SatisfiesForm, recordRoot, classValue, modelNumber, model}
 use Rattle.calculus.specs.Reading.{parsed, read}
-use Rattle.calculus.specs.Calls.{Verdict, FORMS, FALSE, ended, over, call, recordRoot, modelNumber, model}
+use Rattle.calculus.specs.Calls.{Verdict, FORMS, FALSE, ended, over, call}
 use Rattle.calculus.specs.Demands.{Shape, Models, Verdicts}
 use Rattle.calculus.proofs.Bools.{and-i, clash, Each-app, Each-imp, Each-zip, Each-map}
 use Rattle.calculus.proofs.Walk.{walk-root}
 use Rattle.calculus.proofs.Asserting.{WellFormed, below, still, Ranged}
 use Rattle.calculus.proofs.MaskBounds.{Small, assert-small, start-small}
 use Rattle.calculus.proofs.Measure.{measure}
-use Rattle.calculus.proofs.Stepping.{step-fit, step-keeps, up-each}
+use Rattle.calculus.proofs.Stepping.{step-fit, step-keeps, terms-each}
 use Rattle.calculus.proofs.LogLaws.{Full}
 use Rattle.calculus.proofs.Start.{start-fit}
-use Rattle.calculus.proofs.ConstraintLaws.{constraints-in, holds-any}
+use Rattle.calculus.proofs.ConstraintLaws.{InScope, constraints-in, holds-any}
 use Rattle.calculus.proofs.Solutions.{forms-full, model-both, below-is}
 use Rattle.calculus.proofs.Records.{record-length, root-byte, in-byte, out-byte, agrees-says}
-use Rattle.calculus.proofs.ReadingLaws.{read-accepted}
+use Rattle.calculus.proofs.ReadValid.{read-valid}
 use Rattle.calculus.proofs.CallLaws.{records-long, listed-app, was, same-solutions}
 
 -- ---- masks of the forms
@@ -44,15 +47,15 @@ formsOf-app [] ys = refl
 formsOf-app (formed b ∷ xs) ys = ap (λ (r : List Branch). b ∷ r) (formsOf-app xs ys)
 formsOf-app (stepped r ∷ xs) ys = formsOf-app xs ys
 
-module _ (prob : Problem) (acc : Accepted prob) where
+module _ (prob : Problem) (acc : Valid prob) where
   abbrev N : ℕ
   N = termCount prob
 
-  abbrev K : List ℕ
+  abbrev K : List Term
   K = constantTerms prob
 
   abbrev M : ℕ
-  M = prob .sets
+  M = setCount prob
 
   -- what asserting keeps, the start has and every form has
   module _ (P : Branch → Type 0) (h : (f : Fact) → Ranged N M f → (c d : Branch) → P c → assert K c f ≡ some d → P d) where
@@ -74,7 +77,7 @@ module _ (prob : Problem) (acc : Accepted prob) where
 
 -- ---- a record read back
 
-module _ (n : ℕ) (k : List ℕ) (m : ℕ) (b : Branch) (F : WellFormed n k b) where
+module _ (n : ℕ) (k : List Term) (m : ℕ) (b : Branch) (F : WellFormed n k b) where
   abbrev r : List ℕ
   r = recordOf n b
 
@@ -109,71 +112,67 @@ module _ (n : ℕ) (k : List ℕ) (m : ℕ) (b : Branch) (F : WellFormed n k b) 
   root-under : (t : ℕ) → t < n → rootAt b t < n
   root-under t l = omega (arith, below n k b F t)
 
-keep-keep : (p q s : ℕ → Bool) (xs : List ℕ) → Each (λ x. s x ≡ (p x && q x)) xs → keep s xs ≡ keep q (keep p xs)
-keep-keep p q s [] e = refl
-keep-keep p q s (x ∷ xs) e = go (p x) (q x) refl refl (keep-keep p q s xs (e .1))
-  where
-    go : (a c : Bool) → p x ≡ a → q x ≡ c → keep s xs ≡ keep q (keep p xs) → keep s (x ∷ xs) ≡ keep q (keep p (x ∷ xs))
-    go true true u v ih = rw (e .0, u, v, ih)
-    go true false u v ih = rw (e .0, u, v, ih)
-    go false c u v ih = rw (e .0, u, ih)
+module _ {X : Type 0} (p q s : X → Bool) where
+  keep-keep : (xs : List X) → Each (λ x. s x ≡ (p x && q x)) xs → keep s xs ≡ keep q (keep p xs)
+  keep-keep [] e = refl
+  keep-keep (x ∷ xs) e = go (p x) (q x) refl refl (keep-keep xs (e .1))
+    where
+      go : (a c : Bool) → p x ≡ a → q x ≡ c → keep s xs ≡ keep q (keep p xs) → keep s (x ∷ xs) ≡ keep q (keep p (x ∷ xs))
+      go true true u v ih = rw (e .0, u, v, ih)
+      go true false u v ih = rw (e .0, u, v, ih)
+      go false c u v ih = rw (e .0, u, ih)
 
-map-keep : (f g : ℕ → ℤ) (p : ℕ → Bool) (xs : List ℕ) → ((x : ℕ) → p x ≡ true → f x ≡ g x) → map f (keep p xs) ≡ map g (keep p xs)
-map-keep f g p [] h = refl
-map-keep f g p (x ∷ xs) h = go (p x) refl (map-keep f g p xs h)
+-- two functions that agree on what passes a test
+map-keep : {X : Type 0} (f g : X → ℤ) (p q : X → Bool) (xs : List X) → ((x : X) → p x ≡ true → f x ≡ g x) → map f (keep q (keep p xs)) ≡ map g (keep q (keep p xs))
+map-keep f g p q [] h = refl
+map-keep f g p q (x ∷ xs) h = go (p x) (q x) refl refl (map-keep f g p q xs h)
   where
-    go : (a : Bool) → p x ≡ a → map f (keep p xs) ≡ map g (keep p xs) → map f (keep p (x ∷ xs)) ≡ map g (keep p (x ∷ xs))
-    go true u ih = rw u (ap₂ (λ (a : ℤ) (l : List ℤ). a ∷ l) (h x u) ih)
-    go false u ih = rw u ih
+    go : (a c : Bool) → p x ≡ a → q x ≡ c → map f (keep q (keep p xs)) ≡ map g (keep q (keep p xs)) → map f (keep q (keep p (x ∷ xs))) ≡ map g (keep q (keep p (x ∷ xs)))
+    go true true u v ih = rw (u, v) (ap₂ (λ (a : ℤ) (l : List ℤ). a ∷ l) (h x u) ih)
+    go true false u v ih = rw (u, v) ih
+    go false c u v ih = rw u ih
 
-module _ (prob : Problem) (acc : Accepted prob) (b : Branch) (F : Full (termCount prob) (constantTerms prob) (prob .sets) (prob .constraints) (constraints-in prob acc) b) (small : Small (prob .sets) b) where
+module _ (prob : Problem) (acc : Valid prob) (b : Branch) (F : Full (termCount prob) (constantTerms prob) (setCount prob) (prob .constraints) (constraints-in prob acc) b) (small : Small (setCount prob) b) where
   abbrev B : List ℕ
   B = recordOf (termCount prob) b
 
-  roots-are : recordRoot B ≡ rootAt b
-  roots-are = fun-ext (λ t. anywhere (termCount prob) (constantTerms prob) (prob .sets) b (F .0) t)
+  roots-are : recordRoot B ≡ root b
+  roots-are = fun-ext (λ t. ap term (anywhere (termCount prob) (constantTerms prob) (setCount prob) b (F .0) (t .index)))
 
-  numbers-are : (λ (t : ℕ). classValue prob (rootAt b) (rootAt b t)) ≡ modelNumber prob B
-  numbers-are = ap {B = ℕ → ℤ} (λ (ρ : ℕ → ℕ) (t : ℕ). classValue prob ρ (ρ t)) (sym roots-are)
+  numbers-are : branchNumber prob b ≡ modelNumber prob B
+  numbers-are = ap {B = Term → ℤ} (λ (ρ : Term → Term) (t : Term). classValue prob ρ (ρ t)) (sym roots-are)
 
-  both? : ℕ → ℕ → Bool
-  both? A t = eqb (getD B (3 * t) 0) t && bit (getD B (3 * t + 1) 0) A
+  abbrev root? : Term → Bool
+  root? t = eqb (rootAt b (t .index)) (t .index)
 
-  members-are : (A : ℕ) → map (classValue prob (rootAt b)) (keep (λ h. insideAt b h A) (rootsOf (termCount prob) b)) ≡ map (modelNumber prob B) (keep (λ t. eqb (getD B (3 * t) 0) t && bit (getD B (3 * t + 1) 0) A) (upFrom 0 (termCount prob)))
-  unfolding insideAt
+  abbrev listed? : SetVar → Term → Bool
+  listed? A t = eqb (recordRoot B t .index) (t .index) && bit (getD B (3 * t .index + 1) 0) (A .index)
+
+  members-are : (A : SetVar) → map (classValue prob (root b)) (keep (λ h. inside b h A) (rootsOf (termCount prob) b)) ≡ map (modelNumber prob B) (keep (listed? A) (termsFrom 0 (termCount prob)))
+  unfolding inside
   members-are A =
-      let e : keep (λ t. eqb (getD B (3 * t) 0) t && bit (getD B (3 * t + 1) 0) A) (upFrom 0 (termCount prob)) ≡ keep (λ h. bit (getD (b .insides) h 0) A) (keep (λ t. eqb (rootAt b t) t) (upFrom 0 (termCount prob)))
-      = keep-keep (λ t. eqb (rootAt b t) t) (λ h. bit (getD (b .insides) h 0) A) (λ t. eqb (getD B (3 * t) 0) t && bit (getD B (3 * t + 1) 0) A) (upFrom 0 (termCount prob))
-      (up-each (λ t. (eqb (getD B (3 * t) 0) t && bit (getD B (3 * t + 1) 0) A) ≡ (eqb (rootAt b t) t && bit (getD (b .insides) t 0) A)) 0 (termCount prob) (λ t _ l. same t (omega arith))) in
-      sym (ap (map (modelNumber prob B)) e ∙ map-kept (upFrom 0 (termCount prob)))
+      let e : keep (listed? A) (termsFrom 0 (termCount prob)) ≡ keep (λ h. inside b h A) (rootsOf (termCount prob) b)
+      = keep-keep root? (λ h. inside b h A) (listed? A) (termsFrom 0 (termCount prob)) (terms-each (λ t. listed? A t ≡ (root? t && inside b t A)) 0 (termCount prob) (λ t _ l. same t (omega arith))) in
+      map-keep (classValue prob (root b)) (branchNumber prob b) root? (λ h. inside b h A) (termsFrom 0 (termCount prob)) (λ x u. ap (λ (y : ℕ). classValue prob (root b) (term y)) (sym (eqb-true (rootAt b (x .index)) (x .index) u)))
+      ∙ ap (λ (f : Term → ℤ). map f (keep (λ h. inside b h A) (rootsOf (termCount prob) b))) numbers-are
+      ∙ ap (map (modelNumber prob B)) (sym e)
     where
-      same : (t : ℕ) → t < termCount prob → (eqb (getD B (3 * t) 0) t && bit (getD B (3 * t + 1) 0) A) ≡ (eqb (rootAt b t) t && bit (getD (b .insides) t 0) A)
+      same : (t : ℕ) → t < termCount prob → listed? A (term t) ≡ (root? (term t) && bit (getD (b .insides) t 0) (A .index))
       same t l = go (eqb (rootAt b t) t) refl
         where
-          go : (c : Bool) → eqb (rootAt b t) t ≡ c → (eqb (getD B (3 * t) 0) t && bit (getD B (3 * t + 1) 0) A) ≡ (eqb (rootAt b t) t && bit (getD (b .insides) t 0) A)
-          go true q = rw (at-root (termCount prob) (constantTerms prob) (prob .sets) b (F .0) t l, q, at-in (termCount prob) (constantTerms prob) (prob .sets) b (F .0) t l, eqb-true (rootAt b t) t q)
-          go false q = rw (at-root (termCount prob) (constantTerms prob) (prob .sets) b (F .0) t l, q)
+          go : (c : Bool) → eqb (rootAt b t) t ≡ c → listed? A (term t) ≡ (root? (term t) && bit (getD (b .insides) t 0) (A .index))
+          go true q = rw (anywhere (termCount prob) (constantTerms prob) (setCount prob) b (F .0) t, q, at-in (termCount prob) (constantTerms prob) (setCount prob) b (F .0) t l, eqb-true (rootAt b t) t q)
+          go false q = rw (anywhere (termCount prob) (constantTerms prob) (setCount prob) b (F .0) t, q)
 
-      map-kept : (xs : List ℕ) → map (modelNumber prob B) (keep (λ h. bit (getD (b .insides) h 0) A) (keep (λ t. eqb (rootAt b t) t) xs)) ≡ map (classValue prob (rootAt b)) (keep (λ h. bit (getD (b .insides) h 0) A) (keep (λ t. eqb (rootAt b t) t) xs))
-      map-kept [] = refl
-      map-kept (x ∷ xs) = go (eqb (rootAt b x) x) (bit (getD (b .insides) x 0) A) refl refl (map-kept xs)
-        where
-          go : (c d : Bool) → eqb (rootAt b x) x ≡ c → bit (getD (b .insides) x 0) A ≡ d
-              → map (modelNumber prob B) (keep (λ h. bit (getD (b .insides) h 0) A) (keep (λ t. eqb (rootAt b t) t) xs)) ≡ map (classValue prob (rootAt b)) (keep (λ h. bit (getD (b .insides) h 0) A) (keep (λ t. eqb (rootAt b t) t) xs))
-              → map (modelNumber prob B) (keep (λ h. bit (getD (b .insides) h 0) A) (keep (λ t. eqb (rootAt b t) t) (x ∷ xs))) ≡ map (classValue prob (rootAt b)) (keep (λ h. bit (getD (b .insides) h 0) A) (keep (λ t. eqb (rootAt b t) t) (x ∷ xs)))
-          go true true u v ih = rw (u, v) (ap₂ (λ (a : ℤ) (l : List ℤ). a ∷ l) (ap (λ (ρ : ℕ → ℕ). classValue prob ρ (ρ x)) roots-are ∙ ap (classValue prob (rootAt b)) (eqb-true (rootAt b x) x u)) ih)
-          go true false u v ih = rw (u, v) ih
-          go false d u v ih = rw u ih
-
-  settings-are : branchModel prob b ≡ model prob B
-  settings-are = λ i. record { number = λ j. numbers-are i (length (prob .constants) + j); members = λ A. members-are A i }
+  model-is : branchModel prob b ≡ model prob B
+  model-is = λ i. record { number = λ j. numbers-are i (term (constantCount prob + j)); members = λ A. members-are A i }
 
   shape : Shape prob B
-  unfolding insideAt outsideAt
+  unfolding inside outside
   shape =
       let n : ℕ = termCount prob in
-      let k : List ℕ = constantTerms prob in
-      let m : ℕ = prob .sets in
+      let k : List Term = constantTerms prob in
+      let m : ℕ = setCount prob in
       let hd = at-root n k m b (F .0) in
       let hi = at-in n k m b (F .0) in
       let ho = at-out n k m b (F .0) in
@@ -188,21 +187,21 @@ module _ (prob : Problem) (acc : Accepted prob) (b : Branch) (F : Full (termCoun
           rw (hd t l) (ho t l ∙ sym (ho (rootAt b t) (un t l) ∙ ap (λ (x : ℕ). getD (b .outsides) x 0) (still n k b (F .0) t))),
         );
         masks = λ t l. (rw (hi t l) (small .insides (rootAt b t)), rw (ho t l) (small .outsides (rootAt b t)));
-        clear = λ t A l p q. false≢true (sym (F .0 .clean (rootAt b t) A) ∙ and-i (ap (λ (x : ℕ). bit x A) (sym (hi t l)) ∙ p) (ap (λ (x : ℕ). bit x A) (sym (ho t l)) ∙ q));
+        clear = λ t A l p q. false≢true (sym (F .0 .clean (rootAt b t) (setVar A)) ∙ and-i (ap (λ (x : ℕ). bit x A) (sym (hi t l)) ∙ p) (ap (λ (x : ℕ). bit x A) (sym (ho t l)) ∙ q));
       }
 
   -- what is asked of a listed record
   abbrev Model : List ℕ → Type 0
-  Model r = Satisfies prob (model prob r) × AgreesRecord (termCount prob) (values prob (model prob r) (modelNumber prob r)) r × Shape prob r
+  Model r = Satisfies prob (model prob r) × Agrees (termCount prob) (values prob (model prob r) (modelNumber prob r)) r × Shape prob r
 
-  model-true : Satisfies prob (model prob B) × AgreesRecord (termCount prob) (values prob (model prob B) (modelNumber prob B)) B × Shape prob B
+  model-true : Satisfies prob (model prob B) × Agrees (termCount prob) (values prob (model prob B) (modelNumber prob B)) B × Shape prob B
   model-true =
       let w = model-both prob acc b F in
-      let meets : Satisfies prob (branchModel prob b) = Each-zip (Names prob) (Holds (values prob (branchModel prob b) (λ t. classValue prob (rootAt b) (rootAt b t)))) (Holds (values prob (branchModel prob b) (λ _. pos 0))) (prob .constraints)
-      (λ l a q. holds-any prob acc (branchModel prob b) (λ t. classValue prob (rootAt b) (rootAt b t)) (λ _. pos 0) l a q) (acc .variables) (w .1) in
-      let factOf : AgreesRecord (termCount prob) (values prob (branchModel prob b) (λ t. classValue prob (rootAt b) (rootAt b t))) B = agrees-says (termCount prob) (values prob (branchModel prob b) (λ t. classValue prob (rootAt b) (rootAt b t))) b (w .0) in (
-        subst (Satisfies prob) settings-are meets,
-        subst (λ (f : ℕ → ℤ). AgreesRecord (termCount prob) (values prob (model prob B) f) B) numbers-are (subst (λ (g : Assignment). AgreesRecord (termCount prob) (values prob g (λ t. classValue prob (rootAt b) (rootAt b t))) B) settings-are factOf),
+      let satisfied : Satisfies prob (branchModel prob b) = Each-zip (InScope prob) (Holds (values prob (branchModel prob b) (branchNumber prob b))) (Holds (values prob (branchModel prob b) (λ _. pos 0))) (prob .constraints)
+      (λ l a q. holds-any prob acc (branchModel prob b) (branchNumber prob b) (λ _. pos 0) l a q) (acc .refers) (w .1) in
+      let agrees : Agrees (termCount prob) (values prob (branchModel prob b) (branchNumber prob b)) B = agrees-says (termCount prob) (values prob (branchModel prob b) (branchNumber prob b)) b (w .0) in (
+        subst (Satisfies prob) model-is satisfied,
+        subst (λ (f : Term → ℤ). Agrees (termCount prob) (values prob (model prob B) f) B) numbers-are (subst (λ (g : Assignment). Agrees (termCount prob) (values prob g (branchNumber prob b)) B) model-is agrees),
         shape,
       )
 
@@ -229,18 +228,18 @@ each-take P (suc c) (b ∷ bs) e = (e .0, each-take P c bs (e .1))
 pub models : Models
 models bytes budget forms trace prob e v n c a =
     let w = was bytes budget forms trace prob e v n c a in
-    let acc = read-accepted bytes prob e in
+    let acc = read-valid bytes prob e in
     let s : Tally = run prob budget (length forms) in
-    let L : List Event = log (termCount prob) (constantTerms prob) (prob .constraints) (termCount prob * suc (prob .sets)) (start (termCount prob)) in
+    let L : List Event = log (termCount prob) (constantTerms prob) (prob .constraints) (termCount prob * suc (setCount prob)) (start (termCount prob)) in
     let z : listedForms (3 * termCount prob) c (call bytes budget forms trace .forms) ≡ map (recordOf (termCount prob)) (take (s .forms) (formsOf L))
     = rw (w .forms-are, sym (w .count-is)) (listed-app (3 * termCount prob) (s .forms) (s .records) (drop (length (s .records)) forms) (records-long (termCount prob) L budget (length forms)) ∙ lists (termCount prob) L budget (length forms)) in
     subst (Each Fine) (sym z)
     (Each-map Fine (recordOf (termCount prob)) (take (s .forms) (formsOf L))
     (each-take (λ b. Fine (recordOf (termCount prob) b)) (s .forms) (formsOf L)
-    (Each-zip (Full (termCount prob) (constantTerms prob) (prob .sets) (prob .constraints) (constraints-in prob acc)) (Small (prob .sets)) (λ b. Fine (recordOf (termCount prob) b)) (formsOf L) (λ b F m. model-true prob acc b F m) (forms-full prob acc) (forms-small prob acc))))
+    (Each-zip (Full (termCount prob) (constantTerms prob) (setCount prob) (prob .constraints) (constraints-in prob acc)) (Small (setCount prob)) (λ b. Fine (recordOf (termCount prob) b)) (formsOf L) (λ b F m. model-true prob acc b F m) (forms-full prob acc) (forms-small prob acc))))
   where
     Fine : List ℕ → Type 0
-    Fine r = Satisfies prob (model prob r) × AgreesRecord (termCount prob) (values prob (model prob r) (modelNumber prob r)) r × Shape prob r
+    Fine r = Satisfies prob (model prob r) × Agrees (termCount prob) (values prob (model prob r) (modelNumber prob r)) r × Shape prob r
 
 of-false : (e : Rattle.calculus.specs.Run.End) (c : ℕ) → Rattle.calculus.specs.Calls.verdictOf e c ≡ FALSE → c ≡ 0
 of-false Rattle.calculus.specs.Run.DONE zero p = refl
@@ -269,6 +268,6 @@ verdicts bytes budget forms trace prob e n c = (
     gone : (g : Assignment) → Some (SatisfiesForm prob g) [] → ⊥
     gone g s = elim s [ ]
 
-    one : (x : ℕ) → 0 < x → Each (λ r. Satisfies prob (model prob r) × AgreesRecord (termCount prob) (values prob (model prob r) (modelNumber prob r)) r × Shape prob r) (listedForms (3 * termCount prob) x (call bytes budget forms trace .forms)) → (g : Assignment) × Satisfies prob g
+    one : (x : ℕ) → 0 < x → Each (λ r. Satisfies prob (model prob r) × Agrees (termCount prob) (values prob (model prob r) (modelNumber prob r)) r × Shape prob r) (listedForms (3 * termCount prob) x (call bytes budget forms trace .forms)) → (g : Assignment) × Satisfies prob g
     one zero l m = absurd (omega arith)
     one (suc x) l m = (model prob (take (3 * termCount prob) (call bytes budget forms trace .forms)), m .0 .0)

@@ -9,9 +9,9 @@ use lib.ListN.{length}
 use Rattle.calculus.specs.Branch.{Branch}
 use Rattle.calculus.specs.Search.{Next, solved, step}
 use Rattle.calculus.specs.Problem.{Problem, termCount}
-use Rattle.calculus.specs.Run.{recordOf}
+use Rattle.calculus.specs.Forms.{recordOf}
 use Rattle.calculus.specs.Calls.{Verdict, FORMS, FALSE, SPENT, NOROOM}
-use Rattle.calculus.specs.Words.{nextOf, Progress, withForm, withStep, Works, all-model, none-listed, listing, no-room, spending, closing, stepping}
+use Rattle.calculus.specs.Order.{nextOf, Progress, withForm, withStep, Works, all-worked, none-listed, listing, no-room, spending, closing, stepping}
 use Rattle.calculus.specs.Demands.{OneWay}
 
 solved-step : {r : List ℕ} {cs : List Branch} {X : Type 0} → solved ≡ step r cs → X
@@ -75,15 +75,15 @@ module _ (prob : Problem) (budget room : ℕ) where
         (subst (λ (x : List Branch). Works prob budget room (map (λ y. (suc d, y)) x ++ left) (withStep s r′) w f qs) (step-left (sym p′ ∙ p)) g))
 
   if-model : (s : Progress) → s .forms ≢ 0 → (w : Verdict) (f : Progress) (qs : List ℕ) → Works prob budget room [] s w f qs → Same FORMS w s f [] qs
-  if-model s p w f qs (all-model q) = (refl, refl, refl)
+  if-model s p w f qs (all-worked q) = (refl, refl, refl)
   if-model s p w f qs (none-listed q) = absurd (p q)
 
   if-none : (s : Progress) → s .forms ≡ 0 → (w : Verdict) (f : Progress) (qs : List ℕ) → Works prob budget room [] s w f qs → Same FALSE w s f [] qs
-  if-none s p w f qs (all-model q) = absurd (q p)
+  if-none s p w f qs (all-worked q) = absurd (q p)
   if-none s p w f qs (none-listed q) = (refl, refl, refl)
 
   only : (left : List (ℕ × Branch)) (s : Progress) (v : Verdict) (e : Progress) (ps : List ℕ) → Works prob budget room left s v e ps → (w : Verdict) (f : Progress) (qs : List ℕ) → Works prob budget room left s w f qs → Same v w e f ps qs
-  only left s v e ps (all-model p) = if-model s p
+  only left s v e ps (all-worked p) = if-model s p
   only left s v e ps (none-listed p) = if-none s p
   only left s v e ps (listing {d = d} {b = b} {left = rest} {ps = rs} p q g) = if-listing b d rest s p q v e rs (only rest (withForm s (recordOf (termCount prob) b)) v e rs g)
   only left s v e ps (no-room {d = d} {b = b} {left = rest} p q) = if-no-room b d rest s p q

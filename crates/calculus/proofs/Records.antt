@@ -11,10 +11,13 @@ use lib.Dec.{leb}
 use lib.IntN.{ℤ}
 use Rattle.calculus.specs.Lists.{bit, Each, Some, here, there, gather}
 use Rattle.calculus.specs.Meaning.{_∈_, Valuation, Holds}
-use Rattle.calculus.specs.Branch.{Branch, start, rootAt, insideAt, outsideAt}
-use Rattle.calculus.specs.Log.{Event, formed, stepped, log, formsOf}
-use Rattle.calculus.specs.Problem.{Problem, termCount, constantTerms, Assignment, values, Satisfies, SatisfiesBranch, AgreesBranch, problemForms, Accepted}
-use Rattle.calculus.specs.Run.{recordFrom, recordOf, End, DONE, SPENT, NOROOM, Tally, stop, listForm, takeStep, tally, run, listedForms, AgreesRecord, SatisfiesForm}
+use Rattle.calculus.specs.Branch.{Branch, start, rootAt, inside, outside}
+use Rattle.calculus.specs.Terms.{term}
+use Rattle.calculus.specs.Log.{Event, formed, stepped, log}
+use Rattle.calculus.specs.Problem.{Problem, termCount, setCount, constantTerms, Assignment, values, Satisfies, Valid}
+use Rattle.calculus.specs.Forms.{recordFrom, recordOf, listedForms, Agrees, SatisfiesForm}
+use Rattle.calculus.specs.Run.{End, DONE, NOROOM, Tally, tally, run}
+use Rattle.calculus.proofs.BranchForms.{formsOf, problemForms, AgreesBranch, SatisfiesBranch}
 use Rattle.calculus.proofs.Solutions.{solutions}
 
 -- ---- a record's bytes
@@ -48,41 +51,41 @@ module _ (b : Branch) where
 
 -- a form and its record say the same
 module _ (n : ℕ) (v : Valuation) (b : Branch) where
-  pub agrees-says : AgreesBranch n v b → AgreesRecord n v (recordOf n b)
-  unfolding insideAt outsideAt
+  pub agrees-says : AgreesBranch n v b → Agrees n v (recordOf n b)
+  unfolding inside outside
   agrees-says a = record {
-    merges = λ t l. a .merges t l ∙ ap (v .num) (ap (rootAt b) (omega arith) ∙ sym (root-byte b n 0 t l));
-    insides = λ t A l e. a .insides t A l (ap (λ (h : ℕ). bit (getD (b .insides) (rootAt b h) 0) A) (omega arith) ∙ ap (λ (x : ℕ). bit x A) (sym (in-byte b n 0 t l)) ∙ e);
-    outsides = λ t A l e. a .outsides t A l (ap (λ (h : ℕ). bit (getD (b .outsides) (rootAt b h) 0) A) (omega arith) ∙ ap (λ (x : ℕ). bit x A) (sym (out-byte b n 0 t l)) ∙ e);
+    merges = λ t l. a .merges t l ∙ ap (λ (x : ℕ). v .num (term x)) (ap (rootAt b) (omega arith) ∙ sym (root-byte b n 0 t l));
+    insides = λ t A l e. a .insides t A l (ap (λ (h : ℕ). bit (getD (b .insides) (rootAt b h) 0) (A .index)) (omega arith) ∙ ap (λ (x : ℕ). bit x (A .index)) (sym (in-byte b n 0 t l)) ∙ e);
+    outsides = λ t A l e. a .outsides t A l (ap (λ (h : ℕ). bit (getD (b .outsides) (rootAt b h) 0) (A .index)) (omega arith) ∙ ap (λ (x : ℕ). bit x (A .index)) (sym (out-byte b n 0 t l)) ∙ e);
   }
 
-  says-agrees : AgreesRecord n v (recordOf n b) → AgreesBranch n v b
-  unfolding insideAt outsideAt
+  says-agrees : Agrees n v (recordOf n b) → AgreesBranch n v b
+  unfolding inside outside
   says-agrees a = record {
-    merges = λ t l. a .merges t l ∙ ap (v .num) (root-byte b n 0 t l ∙ ap (rootAt b) (omega arith));
-    insides = λ t A l e. a .insides t A l (ap (λ (x : ℕ). bit x A) (in-byte b n 0 t l) ∙ ap (λ (h : ℕ). bit (getD (b .insides) (rootAt b h) 0) A) (omega arith) ∙ e);
-    outsides = λ t A l e. a .outsides t A l (ap (λ (x : ℕ). bit x A) (out-byte b n 0 t l) ∙ ap (λ (h : ℕ). bit (getD (b .outsides) (rootAt b h) 0) A) (omega arith) ∙ e);
+    merges = λ t l. a .merges t l ∙ ap (λ (x : ℕ). v .num (term x)) (root-byte b n 0 t l ∙ ap (rootAt b) (omega arith));
+    insides = λ t A l e. a .insides t A l (ap (λ (x : ℕ). bit x (A .index)) (in-byte b n 0 t l) ∙ ap (λ (h : ℕ). bit (getD (b .insides) (rootAt b h) 0) (A .index)) (omega arith) ∙ e);
+    outsides = λ t A l e. a .outsides t A l (ap (λ (x : ℕ). bit x (A .index)) (out-byte b n 0 t l) ∙ ap (λ (h : ℕ). bit (getD (b .outsides) (rootAt b h) 0) (A .index)) (omega arith) ∙ e);
   }
 
 -- ---- a run that ends
 
-abbrev pub merge : List (List ℕ) → List ℕ
-merge rs = gather (λ (r : List ℕ). r) rs
+abbrev pub concat : List (List ℕ) → List ℕ
+concat rs = gather (λ (r : List ℕ). r) rs
 
-pub listed-merge : (size : ℕ) (rs : List (List ℕ)) → Each (λ r. length r ≡ size) rs → listedForms size (length rs) (merge rs) ≡ rs
-listed-merge size [] e = refl
-listed-merge size (r ∷ rs) e = rw (take-at r (merge rs) size (e .0), drop-at r (merge rs) size (e .0), listed-merge size rs (e .1))
+pub listed-concat : (size : ℕ) (rs : List (List ℕ)) → Each (λ r. length r ≡ size) rs → listedForms size (length rs) (concat rs) ≡ rs
+listed-concat size [] e = refl
+listed-concat size (r ∷ rs) e = rw (take-at r (concat rs) size (e .0), drop-at r (concat rs) size (e .0), listed-concat size rs (e .1))
 
 module _ (n : ℕ) where
   -- the forms and the records of a log, whole
   pub done-all : (es : List Event) (left room : ℕ) → tally n left room es .end ≡ DONE
-      → (tally n left room es .records ≡ merge (map (recordOf n) (formsOf es))) × (tally n left room es .forms ≡ length (map (recordOf n) (formsOf es)))
+      → (tally n left room es .records ≡ concat (map (recordOf n) (formsOf es))) × (tally n left room es .forms ≡ length (map (recordOf n) (formsOf es)))
   done-all [] left room e = (refl, refl)
   done-all (formed b ∷ es) left room e = go (leb (length (recordOf n b)) room) refl (done-all es left (room - length (recordOf n b)))
     where
       go : (t : Bool) → leb (length (recordOf n b)) room ≡ t
-          → (tally n left (room - length (recordOf n b)) es .end ≡ DONE → (tally n left (room - length (recordOf n b)) es .records ≡ merge (map (recordOf n) (formsOf es))) × (tally n left (room - length (recordOf n b)) es .forms ≡ length (map (recordOf n) (formsOf es))))
-          → (tally n left room (formed b ∷ es) .records ≡ merge (map (recordOf n) (formsOf (formed b ∷ es)))) × (tally n left room (formed b ∷ es) .forms ≡ length (map (recordOf n) (formsOf (formed b ∷ es))))
+          → (tally n left (room - length (recordOf n b)) es .end ≡ DONE → (tally n left (room - length (recordOf n b)) es .records ≡ concat (map (recordOf n) (formsOf es))) × (tally n left (room - length (recordOf n b)) es .forms ≡ length (map (recordOf n) (formsOf es))))
+          → (tally n left room (formed b ∷ es) .records ≡ concat (map (recordOf n) (formsOf (formed b ∷ es)))) × (tally n left room (formed b ∷ es) .forms ≡ length (map (recordOf n) (formsOf (formed b ∷ es))))
       go true q ih = let r = ih (rw q at e) in rw q (ap (λ (l : List ℕ). recordOf n b ++ l) (r .0), ap suc (r .1))
       go false q ih = let z : NOROOM ≡ DONE = rw q at e in let w : false ≡ true = cc in absurd (false≢true w)
   done-all (stepped r ∷ es) zero room e = let w : false ≡ true = cc in absurd (false≢true w)
@@ -110,13 +113,13 @@ module _ (prob : Problem) (g : Assignment) where
       go (inr q) ih = there (ih q)
 
 -- the whole run: a assignment satisfies the problem exactly where it satisfies one of the records listed
-pub run-solutions : (prob : Problem) → Accepted prob → (budget room : ℕ) → run prob budget room .end ≡ DONE → (g : Assignment)
+pub run-solutions : (prob : Problem) → Valid prob → (budget room : ℕ) → run prob budget room .end ≡ DONE → (g : Assignment)
     → Satisfies prob g ↔ Some (SatisfiesForm prob g) (listedForms (3 * termCount prob) (run prob budget room .forms) (run prob budget room .records))
 run-solutions prob acc budget room e g =
-    let es : List Event = log (termCount prob) (constantTerms prob) (prob .constraints) (termCount prob * suc (prob .sets)) (start (termCount prob)) in
+    let es : List Event = log (termCount prob) (constantTerms prob) (prob .constraints) (termCount prob * suc (setCount prob)) (start (termCount prob)) in
     let d = done-all (termCount prob) es budget room e in
     let rs : List (List ℕ) = map (recordOf (termCount prob)) (problemForms prob) in
-    let z : rs ≡ listedForms (3 * termCount prob) (run prob budget room .forms) (run prob budget room .records) = sym (rw (d .0, d .1) (listed-merge (3 * termCount prob) rs (sizes (termCount prob) (problemForms prob)))) in (
+    let z : rs ≡ listedForms (3 * termCount prob) (run prob budget room .forms) (run prob budget room .records) = sym (rw (d .0, d .1) (listed-concat (3 * termCount prob) rs (sizes (termCount prob) (problemForms prob)))) in (
       (λ h. subst (Some (SatisfiesForm prob g)) z (to-record prob g (problemForms prob) (solutions prob acc g .0 h))),
       (λ s. solutions prob acc g .1 (from-record prob g (problemForms prob) (subst (Some (SatisfiesForm prob g)) (sym z) s))),
     )

@@ -9,12 +9,14 @@ use native.Mathlib.Omega.{arith}
 use lib.Dec.{eqb}
 use lib.IntN.{ℤ}
 use borrow.Author.Tests.{eqb-true, eqb-false, eq-eqb, ne-eqb}
+use Rattle.calculus.specs.Terms.{Term, SetVar, term}
+use Rattle.calculus.proofs.AtNumber.{term-eqb}
 use Rattle.calculus.specs.Lists.{imp, all, any, keep, upFrom, Each, Some, here, there, gather, picked}
 use Rattle.calculus.specs.Relations.{Rule, applies, propagation, choice, sound, adds, mapRule, Relation, holdsAt, Operand, Literal, propagationRows, splitRows, negationRow, Negation, unequal, denies}
 use Rattle.calculus.specs.Relations as R
 use Rattle.calculus.specs.Meaning.{Constraint, member, nonmember, same, different, relation, negation, exactly, interval, entries, _∈_, Valuation, Holds, Relates}
-use Rattle.calculus.specs.Branch.{Branch, rootAt, insideAt, outsideAt, Fact, In, Out, Same, known}
-use Rattle.calculus.specs.Search.{Move, operandOf, factOf, at, over, distinct, lists, choose, chooses, propagations, splits, rootsOf}
+use Rattle.calculus.specs.Branch.{Branch, rootAt, root, inside, outside, Fact, In, Out, Same, known}
+use Rattle.calculus.specs.Search.{Move, operandOf, factOf, at, over, distinct, listing, choose, choosing, propagations, splits, rootsOf}
 use Rattle.calculus.proofs.Bools.{and-l, and-r, and-i, or-cases, or-l, or-r, or-none-l, imp-at, imp-i, clash, test, not-t, not-f, each-all, all-each, all-map, any-map, Each-app, Each-left, Each-right, Each-all, Each-imp, Each-map, Each-gather}
 use Rattle.calculus.proofs.Tables.{litTrue, litKnown, rows, rows-sound, negation-sound, rows-add}
 use Rattle.calculus.proofs.Truth.{eqZ, eqZ-eq, eq-eqZ, has, has-in, in-has, relates-test, truth, Sat}
@@ -38,25 +40,25 @@ module _ {F G : Type 0} (f : F → G) (p : G → Bool) where
   pub adds-steer : (s : Rule F) → adds p (mapRule f s) ≡ adds (λ x. p (f x)) s
   adds-steer s = ap₂ imp (applies-steer s) (all2-not (s .alternatives))
 
-pub truth-says : (v : Valuation) (h : ℕ) (s : Operand → ℕ) → (λ (l : Literal). truth v (factOf h s l)) ≡ litTrue (λ p. has (v .members (s p)) (v .num h))
+pub truth-says : (v : Valuation) (h : Term) (s : Operand → SetVar) → (λ (l : Literal). truth v (factOf h s l)) ≡ litTrue (λ p. has (v .members (s p)) (v .num h))
 truth-says v h s = fun-ext (λ l. elim l [ R.In p ↦ refl | R.Out p ↦ refl ])
 
-pub known-says : (b : Branch) (h : ℕ) (s : Operand → ℕ) → (λ (l : Literal). known b (factOf h s l)) ≡ litKnown (λ p. known b (In h (s p))) (λ p. known b (Out h (s p)))
+pub known-says : (b : Branch) (h : Term) (s : Operand → SetVar) → (λ (l : Literal). known b (factOf h s l)) ≡ litKnown (λ p. known b (In h (s p))) (λ p. known b (Out h (s p)))
 known-says b h s = fun-ext (λ l. elim l [ R.In p ↦ refl | R.Out p ↦ refl ])
 
 -- ---- constraints in range, and constraints with their witnesses
 
 abbrev pub ConstraintIn : ℕ → ℕ → Constraint → Type 0
-ConstraintIn n m (member t A) = (t < n) × (A < m)
-ConstraintIn n m (nonmember t A) = (t < n) × (A < m)
-ConstraintIn n m (same t u) = (t < n) × (u < n)
-ConstraintIn n m (different t u) = (t < n) × (u < n)
-ConstraintIn n m (relation k A B C) = (A < m) × (B < m) × (C < m)
-ConstraintIn n m (negation k A B C w) = ((A < m) × (B < m) × (C < m)) × (w < n)
-ConstraintIn n m (exactly A es) = (A < m) × Each (λ e. e < n) es
-ConstraintIn n m (interval A i j) = (A < m) × Each (λ e. e < n) (entries i j)
+ConstraintIn n m (member t A) = (t .index < n) × (A .index < m)
+ConstraintIn n m (nonmember t A) = (t .index < n) × (A .index < m)
+ConstraintIn n m (same t u) = (t .index < n) × (u .index < n)
+ConstraintIn n m (different t u) = (t .index < n) × (u .index < n)
+ConstraintIn n m (relation k A B C) = (A .index < m) × (B .index < m) × (C .index < m)
+ConstraintIn n m (negation k A B C w) = ((A .index < m) × (B .index < m) × (C .index < m)) × (w .index < n)
+ConstraintIn n m (exactly A es) = (A .index < m) × Each (λ e. e .index < n) es
+ConstraintIn n m (interval A i j) = (A .index < m) × Each (λ e. e .index < n) (entries i j)
 
-abbrev pub Lists : Valuation → ℕ → List ℕ → Type 0
+abbrev pub Lists : Valuation → SetVar → List Term → Type 0
 Lists v A es = (x : ℤ) → x ∈ v .members A ↔ x ∈ map (v .num) es
 
 -- what the rules use: a failing relation fails at the witness, an interval is its entries
@@ -72,75 +74,75 @@ Good v (interval A i j) = Lists v A (entries i j)
 
 -- ---- soundness
 
-module _ (P : ℕ → Rule Literal → Type 0) where
-  pub Each-swap : (rs : List (Rule Literal)) → ((h : ℕ) → Each (P h) rs) → Each (λ r. (h : ℕ) → P h r) rs
+module _ (P : Term → Rule Literal → Type 0) where
+  pub Each-swap : (rs : List (Rule Literal)) → ((h : Term) → Each (P h) rs) → Each (λ r. (h : Term) → P h r) rs
   Each-swap [] f = tt
   Each-swap (r ∷ rs) f = (λ h. f h .0, Each-swap rs (λ h. f h .1))
 
 -- every row at every root
-pub over-each : (Q : Move → Type 0) (s : Operand → ℕ) (hs : List ℕ) (rs : List (Rule Literal)) → Each (λ r. Each (λ h. Q (at h s r)) hs) rs → Each (λ (p : ℕ × Move). Q (p .1)) (over hs s rs)
-over-each Q s hs rs e = Each-gather (λ (p : ℕ × Move). Q (p .1)) (λ (r : Rule Literal). map (λ (h : ℕ). (h, at h s r)) hs) rs
-    (Each-imp (λ r. Each (λ h. Q (at h s r)) hs) (λ r. Each (λ (p : ℕ × Move). Q (p .1)) (map (λ (h : ℕ). (h, at h s r)) hs)) rs
-    (λ r f. Each-map (λ (p : ℕ × Move). Q (p .1)) (λ (h : ℕ). (h, at h s r)) hs f) e)
+pub over-each : (Q : Move → Type 0) (s : Operand → SetVar) (hs : List Term) (rs : List (Rule Literal)) → Each (λ r. Each (λ h. Q (at h s r)) hs) rs → Each (λ (p : Term × Move). Q (p .1)) (over hs s rs)
+over-each Q s hs rs e = Each-gather (λ (p : Term × Move). Q (p .1)) (λ (r : Rule Literal). map (λ (h : Term). (h, at h s r)) hs) rs
+    (Each-imp (λ r. Each (λ h. Q (at h s r)) hs) (λ r. Each (λ (p : Term × Move). Q (p .1)) (map (λ (h : Term). (h, at h s r)) hs)) rs
+    (λ r f. Each-map (λ (p : Term × Move). Q (p .1)) (λ (h : Term). (h, at h s r)) hs f) e)
 
 module _ (v : Valuation) where
   abbrev Sound : Move → Type 0
   Sound mv = sound (truth v) mv ≡ true
 
-  at-sound : (h : ℕ) (s : Operand → ℕ) (r : Rule Literal) → sound (litTrue (λ p. has (v .members (s p)) (v .num h))) r ≡ true → Sound (at h s r)
+  at-sound : (h : Term) (s : Operand → SetVar) (r : Rule Literal) → sound (litTrue (λ p. has (v .members (s p)) (v .num h))) r ≡ true → Sound (at h s r)
   at-sound h s r e = sound-steer (factOf h s) (truth v) r ∙ ap (λ (q : Literal → Bool). sound q r) (truth-says v h s) ∙ e
 
-  rows-each : (k : Relation) (A B C : ℕ) → Relates k (v .members A) (v .members B) (v .members C) → (h : ℕ) → Each (λ r. Sound (at h (operandOf A B C) r)) (rows k)
+  rows-each : (k : Relation) (A B C : SetVar) → Relates k (v .members A) (v .members B) (v .members C) → (h : Term) → Each (λ r. Sound (at h (operandOf A B C) r)) (rows k)
   rows-each k A B C g h =
       Each-imp (λ r. sound (litTrue (λ p. has (v .members (operandOf A B C p)) (v .num h))) r ≡ true) (λ r. Sound (at h (operandOf A B C) r)) (rows k)
       (λ r e. at-sound h (operandOf A B C) r e)
       (each-all (sound (litTrue (λ p. has (v .members (operandOf A B C p)) (v .num h)))) (rows k)
       (rows-sound k (λ p. has (v .members (operandOf A B C p)) (v .num h)) (relates-test k (v .members A) (v .members B) (v .members C) g (v .num h))))
 
-  over-sound : (k : Relation) (A B C : ℕ) (hs : List ℕ) (rs : List (Rule Literal)) → ((h : ℕ) → Each (λ r. Sound (at h (operandOf A B C) r)) rs) → Each (λ (p : ℕ × Move). Sound (p .1)) (over hs (operandOf A B C) rs)
+  over-sound : (k : Relation) (A B C : SetVar) (hs : List Term) (rs : List (Rule Literal)) → ((h : Term) → Each (λ r. Sound (at h (operandOf A B C) r)) rs) → Each (λ (p : Term × Move). Sound (p .1)) (over hs (operandOf A B C) rs)
   over-sound k A B C hs rs f =
       over-each Sound (operandOf A B C) hs rs
-      (Each-imp (λ r. (h : ℕ) → Sound (at h (operandOf A B C) r)) (λ r. Each (λ h. Sound (at h (operandOf A B C) r)) hs) rs (λ r g. Each-all (λ h. Sound (at h (operandOf A B C) r)) g hs)
+      (Each-imp (λ r. (h : Term) → Sound (at h (operandOf A B C) r)) (λ r. Each (λ h. Sound (at h (operandOf A B C) r)) hs) rs (λ r g. Each-all (λ h. Sound (at h (operandOf A B C) r)) g hs)
       (Each-swap (λ h r. Sound (at h (operandOf A B C) r)) rs f))
 
   propagations-sure : (rule : ℕ) (premises : List Fact) (f : Fact) → truth v f ≡ true → Sound (propagation rule premises f)
   propagations-sure rule premises f e = imp-i (all (truth v) premises) ((truth v f && true) || false) (λ _. rw e)
 
   -- the entries are true of each
-  in-all : (A : ℕ) (es : List ℕ) → ((x : ℤ) → x ∈ map (v .num) es → x ∈ v .members A) → Each (λ e. truth v (In e A) ≡ true) es
+  in-all : (A : SetVar) (es : List Term) → ((x : ℤ) → x ∈ map (v .num) es → x ∈ v .members A) → Each (λ e. truth v (In e A) ≡ true) es
   in-all A [] f = tt
   in-all A (e ∷ es) f = (in-has (v .members A) (v .num e) (f (v .num e) (inl refl)), in-all A es (λ x h. f x (inr h)))
 
-  lists-sound : (b : Branch) (hs : List ℕ) (A : ℕ) (es : List ℕ) → Lists v A es → Each (λ (p : ℕ × Move). Sound (p .1)) (lists hs b A es)
-  lists-sound b hs A es g = Each-map (λ (p : ℕ × Move). Sound (p .1)) (λ (e : ℕ). (rootAt b e, propagation 19 [] (In e A))) es
+  lists-sound : (b : Branch) (hs : List Term) (A : SetVar) (es : List Term) → Lists v A es → Each (λ (p : Term × Move). Sound (p .1)) (listing hs b A es)
+  lists-sound b hs A es g = Each-map (λ (p : Term × Move). Sound (p .1)) (λ (e : Term). (root b e, propagation 19 [] (In e A))) es
       (Each-imp (λ e. truth v (In e A) ≡ true) (λ e. Sound (propagation 19 [] (In e A))) es (λ e q. propagations-sure 19 [] (In e A) q) (in-all A es (λ x. g x .1)))
 
-  module _ (b : Branch) (n : ℕ) (k : List ℕ) (F : WellFormed n k b) (s : Sat v b) where
+  module _ (b : Branch) (n : ℕ) (k : List Term) (F : WellFormed n k b) (s : Sat v b) where
     -- an entry with the value, and its root
-    in-entries : (x : ℤ) (es : List ℕ) → x ∈ map (v .num) es → any (λ g. eqZ x (v .num g)) (map (rootAt b) es) ≡ true
+    in-entries : (x : ℤ) (es : List Term) → x ∈ map (v .num) es → any (λ g. eqZ x (v .num g)) (map (root b) es) ≡ true
     in-entries x [] h = absurd h
-    in-entries x (e ∷ es) (inl h) = or-l (any (λ g. eqZ x (v .num g)) (map (rootAt b) es)) (eq-eqZ x (v .num (rootAt b e)) (h ∙ same-num v b s e (rootAt b e) (sym (still n k b F e))))
-    in-entries x (e ∷ es) (inr h) = or-r (eqZ x (v .num (rootAt b e))) (in-entries x es h)
+    in-entries x (e ∷ es) (inl h) = or-l (any (λ g. eqZ x (v .num g)) (map (root b) es)) (eq-eqZ x (v .num (root b e)) (h ∙ same-num v b s (e .index) (rootAt b (e .index)) (sym (still n k b F (e .index)))))
+    in-entries x (e ∷ es) (inr h) = or-r (eqZ x (v .num (root b e))) (in-entries x es h)
 
-    keep-or : (p : ℕ → Bool) (x : ℕ) (l : List ℕ) → any p l ≡ true → (p x || any p (keep (λ (y : ℕ). not (eqb y x)) l)) ≡ true
+    keep-or : (p : Term → Bool) (x : Term) (l : List Term) → any p l ≡ true → (p x || any p (keep (λ (y : Term). not (eqb (y .index) (x .index))) l)) ≡ true
     keep-or p x [] e = absurd (false≢true e)
-    keep-or p x (y ∷ ys) e = go (or-cases (p y) (any p ys) e) (eqb y x) refl (keep-or p x ys)
+    keep-or p x (y ∷ ys) e = go (or-cases (p y) (any p ys) e) (eqb (y .index) (x .index)) refl (keep-or p x ys)
       where
-        go : (p y ≡ true) ⊎ (any p ys ≡ true) → (t : Bool) → eqb y x ≡ t → (any p ys ≡ true → (p x || any p (keep (λ (y : ℕ). not (eqb y x)) ys)) ≡ true) → (p x || any p (keep (λ (y : ℕ). not (eqb y x)) (y ∷ ys))) ≡ true
-        go (inl q) true z ih = or-l (any p (keep (λ (y : ℕ). not (eqb y x)) (y ∷ ys))) (ap p (sym (eqb-true y x z)) ∙ q)
+        go : (p y ≡ true) ⊎ (any p ys ≡ true) → (t : Bool) → eqb (y .index) (x .index) ≡ t → (any p ys ≡ true → (p x || any p (keep (λ (y : Term). not (eqb (y .index) (x .index))) ys)) ≡ true) → (p x || any p (keep (λ (y : Term). not (eqb (y .index) (x .index))) (y ∷ ys))) ≡ true
+        go (inl q) true z ih = or-l (any p (keep (λ (y : Term). not (eqb (y .index) (x .index))) (y ∷ ys))) (ap p (sym (term-eqb y x z)) ∙ q)
         go (inl q) false z ih = rw (z, q) (or-r (p x) refl)
         go (inr q) true z ih = rw z (ih q)
-        go (inr q) false z ih = rw z (more (or-cases (p x) (any p (keep (λ (y : ℕ). not (eqb y x)) ys)) (ih q)))
+        go (inr q) false z ih = rw z (more (or-cases (p x) (any p (keep (λ (y : Term). not (eqb (y .index) (x .index))) ys)) (ih q)))
           where
-            more : (p x ≡ true) ⊎ (any p (keep (λ (y : ℕ). not (eqb y x)) ys) ≡ true) → (p x || (p y || any p (keep (λ (y : ℕ). not (eqb y x)) ys))) ≡ true
+            more : (p x ≡ true) ⊎ (any p (keep (λ (y : Term). not (eqb (y .index) (x .index))) ys) ≡ true) → (p x || (p y || any p (keep (λ (y : Term). not (eqb (y .index) (x .index))) ys))) ≡ true
             more (inl c) = rw c
             more (inr c) = or-r (p x) (or-r (p y) c)
 
-    any-distinct : (p : ℕ → Bool) (l : List ℕ) → any p l ≡ true → any p (distinct l) ≡ true
+    any-distinct : (p : Term → Bool) (l : List Term) → any p l ≡ true → any p (distinct l) ≡ true
     any-distinct p [] e = e
     any-distinct p (x ∷ xs) e = go (or-cases (p x) (any p xs) e) (any-distinct p xs)
       where
-        go : (p x ≡ true) ⊎ (any p xs ≡ true) → (any p xs ≡ true → any p (distinct xs) ≡ true) → (p x || any p (keep (λ (y : ℕ). not (eqb y x)) (distinct xs))) ≡ true
+        go : (p x ≡ true) ⊎ (any p xs ≡ true) → (any p xs ≡ true → any p (distinct xs) ≡ true) → (p x || any p (keep (λ (y : Term). not (eqb (y .index) (x .index))) (distinct xs))) ≡ true
         go (inl q) ih = rw q
         go (inr q) ih = keep-or p x (distinct xs) (ih q)
 
@@ -148,29 +150,23 @@ module _ (v : Valuation) where
     and-one true = refl
     and-one false = refl
 
-    choose-sound : (hs : List ℕ) (A : ℕ) (es : List ℕ) → Lists v A es → (h : ℕ) → Sound (choose hs b A es h)
+    choose-sound : (hs : List Term) (A : SetVar) (es : List Term) → Lists v A es → (h : Term) → Sound (choose hs b A es h)
     choose-sound hs A es g h =
-        imp-i (truth v (In h A) && true) (any (all (truth v)) (map (λ (e : ℕ). Same h e ∷ []) (distinct (map (rootAt b) es))))
-        (λ e. any-map (all (truth v)) (λ (e : ℕ). Same h e ∷ []) (distinct (map (rootAt b) es))
-        ∙ ap (λ (q : ℕ → Bool). any q (distinct (map (rootAt b) es))) (fun-ext (λ x. and-one (eqZ (v .num h) (v .num x))))
-        ∙ any-distinct (λ x. eqZ (v .num h) (v .num x)) (map (rootAt b) es)
+        imp-i (truth v (In h A) && true) (any (all (truth v)) (map (λ (e : Term). Same h e ∷ []) (distinct (map (root b) es))))
+        (λ e. any-map (all (truth v)) (λ (e : Term). Same h e ∷ []) (distinct (map (root b) es))
+        ∙ ap (λ (q : Term → Bool). any q (distinct (map (root b) es))) (fun-ext (λ x. and-one (eqZ (v .num h) (v .num x))))
+        ∙ any-distinct (λ x. eqZ (v .num h) (v .num x)) (map (root b) es)
         (in-entries (v .num h) es (g (v .num h) .0 (has-in (v .members A) (v .num h) (and-l (truth v (In h A)) true e)))))
 
-    chooses-sound : (hs : List ℕ) (A : ℕ) (es : List ℕ) → Lists v A es → Each (λ (p : ℕ × Move). Sound (p .1)) (chooses hs b A es)
-    chooses-sound hs A es g = Each-map (λ (p : ℕ × Move). Sound (p .1)) (λ (h : ℕ). (h, choose hs b A es h)) hs (Each-all (λ h. Sound (choose hs b A es h)) (choose-sound hs A es g) hs)
+    chooses-sound : (hs : List Term) (A : SetVar) (es : List Term) → Lists v A es → Each (λ (p : Term × Move). Sound (p .1)) (choosing hs b A es)
+    chooses-sound hs A es g = Each-map (λ (p : Term × Move). Sound (p .1)) (λ (h : Term). (h, choose hs b A es h)) hs (Each-all (λ h. Sound (choose hs b A es h)) (choose-sound hs A es g) hs)
 
-    -- rule 30
-    one-of : (t : ℕ) (es : List ℕ) → v .num t ∈ map (v .num) es → any (all (truth v)) (map (λ (e : ℕ). Same t e ∷ []) es) ≡ true
-    one-of t [] m = absurd m
-    one-of t (e ∷ es) (inl q) = or-l (any (all (truth v)) (map (λ (e : ℕ). Same t e ∷ []) es)) (and-i (eq-eqZ (v .num t) (v .num e) q) refl)
-    one-of t (e ∷ es) (inr m) = or-r (truth v (Same t e) && true) (one-of t es m)
-
-    module _ (hs : List ℕ) where
-      pub propagations-sound : (l : Constraint) → Good v l → Each (λ (p : ℕ × Move). Sound (p .1)) (propagations hs b l)
+    module _ (hs : List Term) where
+      pub propagations-sound : (l : Constraint) → Good v l → Each (λ (p : Term × Move). Sound (p .1)) (propagations hs b l)
       propagations-sound (member t A) g = (propagations-sure 1 [] (In t A) (in-has (v .members A) (v .num t) g), tt)
       propagations-sound (nonmember t A) g = (propagations-sure 2 [] (Out t A) (rw (not-has t A g)), tt)
         where
-          not-has : (t A : ℕ) → ¬ (v .num t ∈ v .members A) → has (v .members A) (v .num t) ≡ false
+          not-has : (t : Term) (A : SetVar) → ¬ (v .num t ∈ v .members A) → has (v .members A) (v .num t) ≡ false
           not-has t A g = go (test (has (v .members A) (v .num t)))
             where
               go : (has (v .members A) (v .num t) ≡ true) ⊎ (has (v .members A) (v .num t) ≡ false) → has (v .members A) (v .num t) ≡ false
@@ -183,7 +179,7 @@ module _ (v : Valuation) where
       propagations-sound (exactly A es) g = lists-sound b hs A es g
       propagations-sound (interval A i j) g = lists-sound b hs A (entries i j) g
 
-      pub splits-sound : (l : Constraint) → Good v l → Each (λ (p : ℕ × Move). Sound (p .1)) (splits hs b l)
+      pub splits-sound : (l : Constraint) → Good v l → Each (λ (p : Term × Move). Sound (p .1)) (splits hs b l)
       splits-sound (member t A) g = tt
       splits-sound (nonmember t A) g = tt
       splits-sound (same t u) g = tt

@@ -11,16 +11,18 @@ use lib.ListN.{length, getD, replicate, length-replicate, List·getD-eq-default}
 use lib.Dec.{eqb}
 use lib.IntN.{ℤ}
 use borrow.Author.Tests.{eqb-true, eq-eqb}
+use Rattle.calculus.specs.Terms.{Term, SetVar, term, setVar}
+use Rattle.calculus.proofs.AtNumber.{insideAt, outsideAt}
 use Rattle.calculus.specs.Lists.{bit, upFrom}
 use Rattle.calculus.specs.Meaning.{_∈_, Valuation}
-use Rattle.calculus.specs.Branch.{Branch, start, walk, rootAt, insideAt, outsideAt, Fact, In, Out, Same, known}
-use Rattle.calculus.specs.Problem.{AgreesBranch}
+use Rattle.calculus.specs.Branch.{Branch, start, walk, rootAt, inside, outside, Fact, In, Out, Same, known}
+use Rattle.calculus.proofs.BranchForms.{AgreesBranch}
 use Rattle.calculus.proofs.Bools.{clash, test, not-t}
 use Rattle.calculus.proofs.Masks.{bit-zero}
 use Rattle.calculus.proofs.Walk.{walk-root}
 use Rattle.calculus.proofs.Truth.{truth, Sat, eqZ-eq, eq-eqZ, has, has-in, in-has}
 use Rattle.calculus.proofs.Asserting.{WellFormed, still, same-num}
-use Rattle.calculus.proofs.Measure.{measure, weight, open?, sumBelow, sum-const}
+use Rattle.calculus.proofs.Measure.{measure, weight, undecided, sumBelow, sum-const}
 
 pub up-length : (s n : ℕ) → length (upFrom s n) ≡ n
 up-length s zero = refl
@@ -44,15 +46,15 @@ pub start-root : (n t : ℕ) → rootAt (start n) t ≡ t
 unfolding start rootAt
 start-root n t = start-walk t n t
 
-pub start-inside : (n h A : ℕ) → insideAt (start n) h A ≡ false
-unfolding start insideAt
-start-inside n h A = ap (λ (m : ℕ). bit m A) (zeros n h) ∙ bit-zero A
+pub start-inside : (n h : ℕ) (A : SetVar) → insideAt (start n) h A ≡ false
+unfolding start inside
+start-inside n h A = ap (λ (m : ℕ). bit m (A .index)) (zeros n h) ∙ bit-zero (A .index)
 
-pub start-outside : (n h A : ℕ) → outsideAt (start n) h A ≡ false
-unfolding start outsideAt
-start-outside n h A = ap (λ (m : ℕ). bit m A) (zeros n h) ∙ bit-zero A
+pub start-outside : (n h : ℕ) (A : SetVar) → outsideAt (start n) h A ≡ false
+unfolding start outside
+start-outside n h A = ap (λ (m : ℕ). bit m (A .index)) (zeros n h) ∙ bit-zero (A .index)
 
-pub start-fit : (n : ℕ) (k : List ℕ) → WellFormed n k (start n)
+pub start-fit : (n : ℕ) (k : List Term) → WellFormed n k (start n)
 unfolding start
 start-fit n k = record {
   sized = up-length 0 n;
@@ -64,36 +66,36 @@ start-fit n k = record {
 }
 
 pub start-sat : (v : Valuation) (n : ℕ) → Sat v (start n)
-start-sat v n (In t A) e = clash e (start-inside n (rootAt (start n) t) A)
-start-sat v n (Out t A) e = clash e (start-outside n (rootAt (start n) t) A)
-start-sat v n (Same t u) e = eq-eqZ (v .num t) (v .num u) (ap (v .num) (sym (start-root n t) ∙ eqb-true (rootAt (start n) t) (rootAt (start n) u) e ∙ start-root n u))
+start-sat v n (In t A) e = clash e (start-inside n (rootAt (start n) (t .index)) A)
+start-sat v n (Out t A) e = clash e (start-outside n (rootAt (start n) (t .index)) A)
+start-sat v n (Same t u) e = eq-eqZ (v .num t) (v .num u) (ap (λ (x : ℕ). v .num (term x)) (sym (start-root n (t .index)) ∙ eqb-true (rootAt (start n) (t .index)) (rootAt (start n) (u .index)) e ∙ start-root n (u .index)))
 
 pub start-measure : (n m : ℕ) → measure n m (start n) ≡ n * suc m
 start-measure n m = sum-const n (suc m) (weight m (start n))
-    (λ t l. rw (eq-eqb (rootAt (start n) t) t (start-root n t)) (ap suc (sum-const m 1 (open? (start n) t) (λ A q. rw (start-inside n t A, start-outside n t A)) ∙ mul-one m)))
+    (λ t l. rw (eq-eqb (rootAt (start n) t) t (start-root n t)) (ap suc (sum-const m 1 (undecided (start n) t) (λ A q. rw (start-inside n t (setVar A), start-outside n t (setVar A))) ∙ mul-one m)))
 
 -- values satisfy a branch exactly where its joins and facts are true of them
-module _ (n : ℕ) (k : List ℕ) (v : Valuation) (b : Branch) (F : WellFormed n k b) where
+module _ (n : ℕ) (k : List Term) (v : Valuation) (b : Branch) (F : WellFormed n k b) where
   pub sat-agrees : Sat v b → AgreesBranch n v b
   sat-agrees s = record {
     merges = λ t _. same-num v b s t (rootAt b t) (sym (still n k b F t));
-    insides = λ t A _ e. has-in (v .members A) (v .num t) (s (In t A) e);
-    outsides = λ t A _ e q. clash (in-has (v .members A) (v .num t) q) (not-t (has (v .members A) (v .num t)) (s (Out t A) e));
+    insides = λ t A _ e. has-in (v .members A) (v .num (term t)) (s (In (term t) A) e);
+    outsides = λ t A _ e q. clash (in-has (v .members A) (v .num (term t)) q) (not-t (has (v .members A) (v .num (term t))) (s (Out (term t) A) e));
   }
 
   far-root : (t : ℕ) → n ≤ t → rootAt b t ≡ t
   unfolding rootAt
   far-root t l = walk-root (b .parents) (F .falls) t (List·getD-eq-default (b .parents) t (rw (F .sized) l))
 
-  far-in : (t A : ℕ) → n ≤ t → insideAt b (rootAt b t) A ≡ false
-  unfolding insideAt
-  far-in t A l = ap (λ (m : ℕ). bit m A) (List·getD-eq-default (b .insides) 0 {n = rootAt b t} (rw (F .sized-in, far-root t l) l)) ∙ bit-zero A
+  far-in : (t : ℕ) (A : SetVar) → n ≤ t → insideAt b (rootAt b t) A ≡ false
+  unfolding inside
+  far-in t A l = ap (λ (m : ℕ). bit m (A .index)) (List·getD-eq-default (b .insides) 0 {n = rootAt b t} (rw (F .sized-in, far-root t l) l)) ∙ bit-zero (A .index)
 
-  far-out : (t A : ℕ) → n ≤ t → outsideAt b (rootAt b t) A ≡ false
-  unfolding outsideAt
-  far-out t A l = ap (λ (m : ℕ). bit m A) (List·getD-eq-default (b .outsides) 0 {n = rootAt b t} (rw (F .sized-out, far-root t l) l)) ∙ bit-zero A
+  far-out : (t : ℕ) (A : SetVar) → n ≤ t → outsideAt b (rootAt b t) A ≡ false
+  unfolding outside
+  far-out t A l = ap (λ (m : ℕ). bit m (A .index)) (List·getD-eq-default (b .outsides) 0 {n = rootAt b t} (rw (F .sized-out, far-root t l) l)) ∙ bit-zero (A .index)
 
-  not-has : (A : ℕ) (x : ℤ) → ¬ (x ∈ v .members A) → not (has (v .members A) x) ≡ true
+  not-has : (A : SetVar) (x : ℤ) → ¬ (x ∈ v .members A) → not (has (v .members A) x) ≡ true
   not-has A x q = go (test (has (v .members A) x))
     where
       go : (has (v .members A) x ≡ true) ⊎ (has (v .members A) x ≡ false) → not (has (v .members A) x) ≡ true
@@ -101,21 +103,21 @@ module _ (n : ℕ) (k : List ℕ) (v : Valuation) (b : Branch) (F : WellFormed n
       go (inr e) = rw e
 
   pub agrees-sat : AgreesBranch n v b → Sat v b
-  agrees-sat a (In t A) e = go (decLt t n)
+  agrees-sat a (In t A) e = go (decLt (t .index) n)
     where
-      go : Dec (t < n) → truth v (In t A) ≡ true
-      go (yes l) = in-has (v .members A) (v .num t) (a .insides t A l e)
-      go (no l) = clash e (far-in t A (omega arith))
-  agrees-sat a (Out t A) e = go (decLt t n)
+      go : Dec ((t .index) < n) → truth v (In t A) ≡ true
+      go (yes l) = in-has (v .members A) (v .num t) (a .insides (t .index) A l e)
+      go (no l) = clash e (far-in (t .index) A (omega arith))
+  agrees-sat a (Out t A) e = go (decLt (t .index) n)
     where
-      go : Dec (t < n) → truth v (Out t A) ≡ true
-      go (yes l) = not-has A (v .num t) (a .outsides t A l e)
-      go (no l) = clash e (far-out t A (omega arith))
-  agrees-sat a (Same t u) e = eq-eqZ (v .num t) (v .num u) (own t ∙ ap (v .num) (eqb-true (rootAt b t) (rootAt b u) e) ∙ sym (own u))
+      go : Dec ((t .index) < n) → truth v (Out t A) ≡ true
+      go (yes l) = not-has A (v .num t) (a .outsides (t .index) A l e)
+      go (no l) = clash e (far-out (t .index) A (omega arith))
+  agrees-sat a (Same t u) e = eq-eqZ (v .num t) (v .num u) (own (t .index) ∙ ap (λ (x : ℕ). v .num (term x)) (eqb-true (rootAt b (t .index)) (rootAt b (u .index)) e) ∙ sym (own (u .index)))
     where
-      own : (t : ℕ) → v .num t ≡ v .num (rootAt b t)
+      own : (t : ℕ) → v .num (term t) ≡ v .num (term (rootAt b t))
       own t = go (decLt t n)
         where
-          go : Dec (t < n) → v .num t ≡ v .num (rootAt b t)
+          go : Dec (t < n) → v .num (term t) ≡ v .num (term (rootAt b t))
           go (yes l) = a .merges t l
-          go (no l) = ap (v .num) (sym (far-root t (omega arith)))
+          go (no l) = ap (λ (x : ℕ). v .num (term x)) (sym (far-root t (omega arith)))

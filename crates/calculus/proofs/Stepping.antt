@@ -10,11 +10,12 @@ use native.Mathlib.Decide.{ℕ-discrete}
 use lib.ListN.{length}
 use lib.Dec.{eqb}
 use borrow.Author.Tests.{eqb-true, eq-eqb}
+use Rattle.calculus.specs.Terms.{Term, SetVar, term, termsFrom}
 use Rattle.calculus.specs.Lists.{imp, all, any, keep, first, upFrom, Each, Some, here, there, gather, picked}
 use Rattle.calculus.specs.Relations.{Rule, applies, sound, adds, Negation, unequal, denies}
 use Rattle.calculus.specs.Meaning.{Constraint, Valuation}
-use Rattle.calculus.specs.Branch.{Branch, rootAt, Fact, known, assert, assertAll}
-use Rattle.calculus.specs.Search.{Move, propagations, splits, rootsOf, Candidate, numbered, places, Next, solved, step, children, stepped, next}
+use Rattle.calculus.specs.Branch.{Branch, rootAt, root, Fact, known, assert, assertAll}
+use Rattle.calculus.specs.Search.{Move, propagations, splits, rootsOf, Candidate, candidates, places, Next, solved, step, children, taken, next}
 use Rattle.calculus.proofs.Bools.{and-l, and-r, and-i, imp-at, clash, not-t, each-all, all-each, Each-app, Each-left, Each-right, Each-imp, Each-zip, Each-map, map-Each, first-none, first-some}
 use Rattle.calculus.proofs.Truth.{truth, Sat, Distinct}
 use Rattle.calculus.proofs.Asserting.{WellFormed, Ranged}
@@ -38,6 +39,13 @@ module _ (P : ℕ → Type 0) where
       go (yes q) f = subst P (sym q) (e .0)
       go (no q) f = f (omega arith)
 
+module _ (P : Term → Type 0) where
+  pub terms-each : (s n : ℕ) → ((t : ℕ) → s ≤ t → t < s + n → P (term t)) → Each P (termsFrom s n)
+  terms-each s n f = Each-map P term (upFrom s n) (up-each (λ t. P (term t)) s n f)
+
+  pub terms-at : (s n : ℕ) → Each P (termsFrom s n) → (t : ℕ) → s ≤ t → t < s + n → P (term t)
+  terms-at s n e t l h = up-at (λ t. P (term t)) s n (map-Each P term (upFrom s n) e) t l h
+
 module _ {X : Type 0} (P : X → Type 0) (p : X → Bool) where
   -- what is kept passes the test, and what passes it is kept
   pub keep-each : (l : List X) → Each P l → Each (λ x. P x × (p x ≡ true)) (keep p l)
@@ -57,56 +65,59 @@ module _ {X : Type 0} (P : X → Type 0) (p : X → Bool) where
       go false q ih = (λ z. clash z q, ih (rw q at e))
 
 module _ (n : ℕ) (b : Branch) where
-  abbrev pub IsHead : ℕ → Type 0
-  IsHead h = (h < n) × (rootAt b h ≡ h)
+  abbrev pub IsRoot : Term → Type 0
+  IsRoot h = (h .index < n) × (rootAt b (h .index) ≡ h .index)
 
-  pub roots-each : Each IsHead (rootsOf n b)
+  abbrev root? : Term → Bool
+  root? t = eqb (rootAt b (t .index)) (t .index)
+
+  pub roots-each : Each IsRoot (rootsOf n b)
   roots-each =
-      Each-imp (λ h. (h < n) × (eqb (rootAt b h) h ≡ true)) IsHead (rootsOf n b) (λ h q. (q .0, eqb-true (rootAt b h) h (q .1)))
-      (keep-each (λ h. h < n) (λ t. eqb (rootAt b t) t) (upFrom 0 n) (up-each (λ h. h < n) 0 n (λ t l h. omega arith)))
+      Each-imp (λ h. (h .index < n) × (root? h ≡ true)) IsRoot (rootsOf n b) (λ h q. (q .0, eqb-true (rootAt b (h .index)) (h .index) (q .1)))
+      (keep-each (λ h. h .index < n) root? (termsFrom 0 n) (terms-each (λ h. h .index < n) 0 n (λ t l h. omega arith)))
 
-  pub roots-at : (P : ℕ → Type 0) → Each P (rootsOf n b) → (h : ℕ) → IsHead h → P h
-  roots-at P e h i = up-at (λ t. eqb (rootAt b t) t ≡ true → P t) 0 n (keep-at P (λ t. eqb (rootAt b t) t) (upFrom 0 n) e) h (omega arith) (omega (arith, i .0)) (eq-eqb (rootAt b h) h (i .1))
+  pub roots-at : (P : Term → Type 0) → Each P (rootsOf n b) → (h : Term) → IsRoot h → P h
+  roots-at P e h i = terms-at (λ t. root? t ≡ true → P t) 0 n (keep-at P root? (termsFrom 0 n) e) (h .index) (omega arith) (omega (arith, i .0)) (eq-eqb (rootAt b (h .index)) (h .index) (i .1))
 
 -- ---- places
 
-module _ (Q : Move → Type 0) (f : Constraint → List (ℕ × Move)) where
-  numbered-each : (i : ℕ) (ls : List Constraint) → Each (λ l. Each (λ (p : ℕ × Move). Q (p .1)) (f l)) ls → Each (λ (p : Candidate). Q (p .move)) (numbered f i ls)
-  numbered-each i [] e = tt
-  numbered-each i (l ∷ ls) e =
-      Each-app (λ (p : Candidate). Q (p .move)) (map (λ (m : ℕ × Move). record { constraint = i; concerned = m .0; move = m .1 }) (f l)) (numbered f (suc i) ls)
-      (Each-map (λ (p : Candidate). Q (p .move)) (λ (m : ℕ × Move). record { constraint = i; concerned = m .0; move = m .1 }) (f l) (e .0)) (numbered-each (suc i) ls (e .1))
+module _ (Q : Move → Type 0) (f : Constraint → List (Term × Move)) where
+  candidates-each : (i : ℕ) (ls : List Constraint) → Each (λ l. Each (λ (p : Term × Move). Q (p .1)) (f l)) ls → Each (λ (p : Candidate). Q (p .move)) (candidates f i ls)
+  candidates-each i [] e = tt
+  candidates-each i (l ∷ ls) e =
+      Each-app (λ (p : Candidate). Q (p .move)) (map (λ (m : Term × Move). record { constraint = i; concerned = m .0; move = m .1 }) (f l)) (candidates f (suc i) ls)
+      (Each-map (λ (p : Candidate). Q (p .move)) (λ (m : Term × Move). record { constraint = i; concerned = m .0; move = m .1 }) (f l) (e .0)) (candidates-each (suc i) ls (e .1))
 
-  each-numbered : (i : ℕ) (ls : List Constraint) → Each (λ (p : Candidate). Q (p .move)) (numbered f i ls) → Each (λ l. Each (λ (p : ℕ × Move). Q (p .1)) (f l)) ls
-  each-numbered i [] e = tt
-  each-numbered i (l ∷ ls) e = (
-    map-Each (λ (p : Candidate). Q (p .move)) (λ (m : ℕ × Move). record { constraint = i; concerned = m .0; move = m .1 }) (f l)
-        (Each-left (λ (p : Candidate). Q (p .move)) (map (λ (m : ℕ × Move). record { constraint = i; concerned = m .0; move = m .1 }) (f l)) (numbered f (suc i) ls) e),
-    each-numbered (suc i) ls (Each-right (λ (p : Candidate). Q (p .move)) (map (λ (m : ℕ × Move). record { constraint = i; concerned = m .0; move = m .1 }) (f l)) (numbered f (suc i) ls) e),
+  each-candidates : (i : ℕ) (ls : List Constraint) → Each (λ (p : Candidate). Q (p .move)) (candidates f i ls) → Each (λ l. Each (λ (p : Term × Move). Q (p .1)) (f l)) ls
+  each-candidates i [] e = tt
+  each-candidates i (l ∷ ls) e = (
+    map-Each (λ (p : Candidate). Q (p .move)) (λ (m : Term × Move). record { constraint = i; concerned = m .0; move = m .1 }) (f l)
+        (Each-left (λ (p : Candidate). Q (p .move)) (map (λ (m : Term × Move). record { constraint = i; concerned = m .0; move = m .1 }) (f l)) (candidates f (suc i) ls) e),
+    each-candidates (suc i) ls (Each-right (λ (p : Candidate). Q (p .move)) (map (λ (m : Term × Move). record { constraint = i; concerned = m .0; move = m .1 }) (f l)) (candidates f (suc i) ls) e),
   )
 
 module _ (n : ℕ) (ls : List Constraint) (b : Branch) (Q : Move → Type 0) where
   abbrev OfForced : Constraint → Type 0
-  OfForced l = Each (λ (p : ℕ × Move). Q (p .1)) (propagations (rootsOf n b) b l)
+  OfForced l = Each (λ (p : Term × Move). Q (p .1)) (propagations (rootsOf n b) b l)
 
   abbrev OfSplits : Constraint → Type 0
-  OfSplits l = Each (λ (p : ℕ × Move). Q (p .1)) (splits (rootsOf n b) b l)
+  OfSplits l = Each (λ (p : Term × Move). Q (p .1)) (splits (rootsOf n b) b l)
 
   pub places-each : Each OfForced ls → Each OfSplits ls → Each (λ (p : Candidate). Q (p .move)) (places n ls b)
-  places-each f s = Each-app (λ (p : Candidate). Q (p .move)) (numbered (propagations (rootsOf n b) b) 0 ls) (numbered (splits (rootsOf n b) b) 0 ls)
-      (numbered-each Q (propagations (rootsOf n b) b) 0 ls f) (numbered-each Q (splits (rootsOf n b) b) 0 ls s)
+  places-each f s = Each-app (λ (p : Candidate). Q (p .move)) (candidates (propagations (rootsOf n b) b) 0 ls) (candidates (splits (rootsOf n b) b) 0 ls)
+      (candidates-each Q (propagations (rootsOf n b) b) 0 ls f) (candidates-each Q (splits (rootsOf n b) b) 0 ls s)
 
   pub each-places : Each (λ (p : Candidate). Q (p .move)) (places n ls b) → Each (λ l. OfForced l × OfSplits l) ls
   each-places e =
       Each-zip OfForced OfSplits (λ l. OfForced l × OfSplits l) ls (λ l x y. (x, y))
-      (each-numbered Q (propagations (rootsOf n b) b) 0 ls (Each-left (λ (p : Candidate). Q (p .move)) (numbered (propagations (rootsOf n b) b) 0 ls) (numbered (splits (rootsOf n b) b) 0 ls) e))
-      (each-numbered Q (splits (rootsOf n b) b) 0 ls (Each-right (λ (p : Candidate). Q (p .move)) (numbered (propagations (rootsOf n b) b) 0 ls) (numbered (splits (rootsOf n b) b) 0 ls) e))
+      (each-candidates Q (propagations (rootsOf n b) b) 0 ls (Each-left (λ (p : Candidate). Q (p .move)) (candidates (propagations (rootsOf n b) b) 0 ls) (candidates (splits (rootsOf n b) b) 0 ls) e))
+      (each-candidates Q (splits (rootsOf n b) b) 0 ls (Each-right (λ (p : Candidate). Q (p .move)) (candidates (propagations (rootsOf n b) b) 0 ls) (candidates (splits (rootsOf n b) b) 0 ls) e))
 
 -- ---- the step
 
-module _ (n : ℕ) (k : List ℕ) (m : ℕ) (ls : List Constraint) (li : Each (ConstraintIn n m) ls) (b : Branch) (F : WellFormed n k b) where
-  hn : Each (λ h. h < n) (rootsOf n b)
-  hn = Each-imp (IsHead n b) (λ h. h < n) (rootsOf n b) (λ h q. q .0) (roots-each n b)
+module _ (n : ℕ) (k : List Term) (m : ℕ) (ls : List Constraint) (li : Each (ConstraintIn n m) ls) (b : Branch) (F : WellFormed n k b) where
+  hn : Each (λ h. h .index < n) (rootsOf n b)
+  hn = Each-imp (IsRoot n b) (λ h. h .index < n) (rootsOf n b) (λ h q. q .0) (roots-each n b)
 
   all-tame : Each (λ (p : Candidate). Tame n k m b F (p .move)) (places n ls b)
   all-tame = places-each n ls b (Tame n k m b F)
@@ -120,12 +131,12 @@ module _ (n : ℕ) (k : List ℕ) (m : ℕ) (ls : List Constraint) (li : Each (C
   pub data Found : Next → Type 1 where
     nothing : Each (λ (p : Candidate). applies (known b) (p .move) ≡ false) (places n ls b) → Found solved
     place : (p : Candidate) → applies (known b) (p .move) ≡ true → ((P : Candidate → Type 0) → Each P (places n ls b) → P p)
-        → Found (step (p .move .rule ∷ p .constraint ∷ p .concerned ∷ length (children k b (p .move)) ∷ []) (children k b (p .move)))
+        → Found (step (p .move .rule ∷ p .constraint ∷ p .concerned .index ∷ length (children k b (p .move)) ∷ []) (children k b (p .move)))
 
   pub found : Found (next n k ls b)
   found = go (first test? (places n ls b)) refl
     where
-      go : (o : Option Candidate) → first test? (places n ls b) ≡ o → Found (stepped k b o)
+      go : (o : Option Candidate) → first test? (places n ls b) ≡ o → Found (taken k b o)
       go none e = nothing (first-none test? (places n ls b) e)
       go (some p) e = place p (first-some (λ _. Unit {0}) test? (places n ls b) p (Each-imp (λ (p : Candidate). Tame n k m b F (p .move)) (λ _. Unit {0}) (places n ls b) (λ _ _. tt) all-tame) e .1) (λ P g. first-some P test? (places n ls b) p g e .0)
 
@@ -194,9 +205,9 @@ module _ (n : ℕ) (k : List ℕ) (m : ℕ) (ls : List Constraint) (li : Each (C
 
   -- a form: no move of any constraint applies
   pub solved-full : next n k ls b ≡ solved
-      → Each (λ l. Each (λ (p : ℕ × Move). applies (known b) (p .1) ≡ false) (propagations (rootsOf n b) b l) × Each (λ (p : ℕ × Move). applies (known b) (p .1) ≡ false) (splits (rootsOf n b) b l)) ls
+      → Each (λ l. Each (λ (p : Term × Move). applies (known b) (p .1) ≡ false) (propagations (rootsOf n b) b l) × Each (λ (p : Term × Move). applies (known b) (p .1) ≡ false) (splits (rootsOf n b) b l)) ls
   solved-full e = go (next n k ls b) found e
     where
-      go : (x : Next) → Found x → x ≡ solved → Each (λ l. Each (λ (p : ℕ × Move). applies (known b) (p .1) ≡ false) (propagations (rootsOf n b) b l) × Each (λ (p : ℕ × Move). applies (known b) (p .1) ≡ false) (splits (rootsOf n b) b l)) ls
+      go : (x : Next) → Found x → x ≡ solved → Each (λ l. Each (λ (p : Term × Move). applies (known b) (p .1) ≡ false) (propagations (rootsOf n b) b l) × Each (λ (p : Term × Move). applies (known b) (p .1) ≡ false) (splits (rootsOf n b) b l)) ls
       go x (nothing h) q = each-places n ls b (λ mv. applies (known b) mv ≡ false) h
       go x (place p a f) q = let w : false ≡ true = cc in absurd (false≢true w)

@@ -12,6 +12,7 @@ use lib.Seq.{getD-set-same, getD-set-other}
 use lib.Dec.{eqb}
 use borrow.Author.Tests.{eq-eqb, ne-eqb}
 use Rattle.calculus.specs.Branch.{walk}
+use Rattle.calculus.specs.Invariants.{Falls}
 
 -- hi's class goes to lo's
 abbrev pub moved : ℕ → ℕ → ℕ → ℕ
@@ -22,9 +23,6 @@ moved-hi lo hi = rw (eq-eqb hi hi refl)
 
 pub moved-other : (lo hi h : ℕ) → h ≢ hi → moved lo hi h ≡ h
 moved-other lo hi h n = rw (ne-eqb h hi n)
-
-abbrev pub Falls : List ℕ → Type 0
-Falls js = (t : ℕ) → getD js t t ≤ t
 
 module _ (js : List ℕ) where
   stay : (f t : ℕ) → getD js t t ≡ t → walk f js t ≡ t

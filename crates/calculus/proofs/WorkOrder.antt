@@ -9,16 +9,18 @@ use native.Mathlib.Nat.{le-of-eq}
 use lib.ListN.{length, length-append}
 use lib.Dec.{leb}
 use borrow.Author.Tests.{leb-true, leb-false}
+use Rattle.calculus.specs.Terms.{Term}
 use Rattle.calculus.specs.Lists.{Each, Some, here, there, gather}
 use Rattle.calculus.specs.Branch.{Branch, start}
 use Rattle.calculus.specs.Search.{Next, solved, step, next}
 use Rattle.calculus.specs.Log.{Event, formed, stepped, log}
-use Rattle.calculus.specs.Problem.{Problem, termCount, constantTerms, Accepted}
-use Rattle.calculus.specs.Run.{recordOf, Tally, stop, listForm, takeStep, tally, run}
+use Rattle.calculus.specs.Problem.{setCount, Problem, termCount, constantTerms, Valid}
+use Rattle.calculus.specs.Run.{Tally, stop, listForm, takeStep, tally, run}
+use Rattle.calculus.specs.Forms.{recordOf}
 use Rattle.calculus.specs.Run as R
 use Rattle.calculus.specs.Reading.{parsed, read}
 use Rattle.calculus.specs.Calls.{Verdict, FORMS, FALSE, SPENT, NOROOM, verdictOf}
-use Rattle.calculus.specs.Words.{nextOf, Path, begin, onward, Progress, withForm, withStep, Works, all-model, none-listed, listing, no-room, spending, closing, stepping}
+use Rattle.calculus.specs.Order.{nextOf, Path, begin, onward, Progress, unbegun, withForm, withStep, Works, all-worked, none-listed, listing, no-room, spending, closing, stepping}
 use Rattle.calculus.specs.Demands.{ShortPaths}
 use Rattle.calculus.proofs.Bools.{Each-imp}
 use Rattle.calculus.proofs.Asserting.{WellFormed}
@@ -28,21 +30,21 @@ use Rattle.calculus.proofs.LogLaws.{at-zero}
 use Rattle.calculus.proofs.Start.{start-fit, start-measure}
 use Rattle.calculus.proofs.ConstraintLaws.{constraints-in}
 use Rattle.calculus.proofs.Records.{record-length}
-use Rattle.calculus.proofs.ReadingLaws.{read-accepted}
+use Rattle.calculus.proofs.ReadValid.{read-valid}
 
 some-each : (P : Branch → Type 0) (c : Branch) (cs : List Branch) → Each P cs → Some (λ x. x ≡ c) cs → P c
 some-each P c cs e (here {x = b} q) = subst P q (e .0)
 some-each P c cs e (there {xs = ds} s) = some-each P c ds (e .1) s
 
-module _ (prob : Problem) (acc : Accepted prob) where
+module _ (prob : Problem) (acc : Valid prob) where
   abbrev N : ℕ
   N = termCount prob
 
-  abbrev K : List ℕ
+  abbrev K : List Term
   K = constantTerms prob
 
   abbrev M : ℕ
-  M = prob .sets
+  M = setCount prob
 
   abbrev bound : ℕ
   bound = N * suc M
@@ -73,7 +75,7 @@ module _ (prob : Problem) (acc : Accepted prob) where
 
 pub short-paths : ShortPaths
 short-paths bytes prob q d b p =
-    let acc = read-accepted bytes prob q in
+    let acc = read-valid bytes prob q in
     let a = path-at prob acc d b p in
     (omega (arith, a .1), λ r cs e. omega (arith, a .1, some-left prob acc b (a .0) r cs e))
 
@@ -85,7 +87,7 @@ done-is : {a b c d : ℕ} {p q r s : List ℕ} → a ≡ b → c ≡ d → p ≡
     → _≡_ {A = Progress} (record { steps = a; forms = c; records = p; trace = r }) (record { steps = b; forms = d; records = q; trace = s })
 done-is e f g h = λ i. record { steps = e i; forms = f i; records = g i; trace = h i }
 
-module _ (prob : Problem) (acc : Accepted prob) (budget room : ℕ) where
+module _ (prob : Problem) (acc : Valid prob) (budget room : ℕ) where
   -- a run that begins with these branches, and reads these events
   abbrev Runs : List (ℕ × Branch) → List Event → Type 0
   Runs left es = (s : Progress) (l q : ℕ) → s .steps + l ≡ budget → length (s .records) + q ≡ room
@@ -107,7 +109,7 @@ module _ (prob : Problem) (acc : Accepted prob) (budget room : ℕ) where
           ([], moved [] s FALSE (verdictOf R.DONE (s .forms + 0)) s (plus s (stop R.DONE)) [] (ap (verdictOf R.DONE) (sym z)) (plus-stop s R.DONE) (none-listed e), tt)
       go (suc c) e =
           let z : s .forms + 0 ≡ suc c = omega arith in
-          ([], moved [] s FORMS (verdictOf R.DONE (s .forms + 0)) s (plus s (stop R.DONE)) [] (ap (verdictOf R.DONE) (sym z)) (plus-stop s R.DONE) (all-model (λ w. omega arith)), tt)
+          ([], moved [] s FORMS (verdictOf R.DONE (s .forms + 0)) s (plus s (stop R.DONE)) [] (ap (verdictOf R.DONE) (sym z)) (plus-stop s R.DONE) (all-worked (λ w. omega arith)), tt)
 
   runs-solved : (d : ℕ) (b : Branch) → d ≤ bound prob acc → nextOf prob b ≡ solved → (left : List (ℕ × Branch)) (es : List Event) → Runs left es → Runs ((d, b) ∷ left) (formed b ∷ es)
   runs-solved d b k e left es h s l q x y = go (leb (length (recordOf (termCount prob) b)) q) refl
@@ -160,38 +162,35 @@ module _ (prob : Problem) (acc : Accepted prob) (budget room : ℕ) where
       go (c ∷ ds) z = (i .0, stepping (e ∙ ap (step r) z) more (subst (λ (ds : List Branch). Works prob budget room (map (λ c. (suc d, c)) ds ++ left) (withStep s r) (verdictOf (tally (termCount prob) l q es .end) (s .forms + tally (termCount prob) l q es .forms)) (plus s (takeStep r (tally (termCount prob) l q es))) (i .0)) z j), i .2)
 
   -- the children of a list, each by its own log
-  runs-all : (fuel d : ℕ) → ((b : Branch) → At prob acc d b → measure (termCount prob) (prob .sets) b ≤ fuel → (left : List (ℕ × Branch)) (es : List Event) → Runs left es → Runs ((d, b) ∷ left) (log (termCount prob) (constantTerms prob) (prob .constraints) fuel b ++ es))
-      → (cs : List Branch) → Each (λ c. At prob acc d c × (measure (termCount prob) (prob .sets) c ≤ fuel)) cs → (left : List (ℕ × Branch)) (es : List Event) → Runs left es
+  runs-all : (fuel d : ℕ) → ((b : Branch) → At prob acc d b → measure (termCount prob) (setCount prob) b ≤ fuel → (left : List (ℕ × Branch)) (es : List Event) → Runs left es → Runs ((d, b) ∷ left) (log (termCount prob) (constantTerms prob) (prob .constraints) fuel b ++ es))
+      → (cs : List Branch) → Each (λ c. At prob acc d c × (measure (termCount prob) (setCount prob) c ≤ fuel)) cs → (left : List (ℕ × Branch)) (es : List Event) → Runs left es
       → Runs (map (λ c. (d, c)) cs ++ left) (gather (log (termCount prob) (constantTerms prob) (prob .constraints) fuel) cs ++ es)
   runs-all fuel d h [] a left es g = g
   runs-all fuel d h (c ∷ cs) a left es g =
       let L : Branch → List Event = log (termCount prob) (constantTerms prob) (prob .constraints) fuel in
       rw (append-assoc (L c) (gather L cs) es) (h c (a .0 .0) (a .0 .1) (map (λ c. (d, c)) cs ++ left) (gather L cs ++ es) (runs-all fuel d h cs (a .1) left es g))
 
-  runs-log : (fuel d : ℕ) (b : Branch) → At prob acc d b → measure (termCount prob) (prob .sets) b ≤ fuel → (left : List (ℕ × Branch)) (es : List Event) → Runs left es
+  runs-log : (fuel d : ℕ) (b : Branch) → At prob acc d b → measure (termCount prob) (setCount prob) b ≤ fuel → (left : List (ℕ × Branch)) (es : List Event) → Runs left es
       → Runs ((d, b) ∷ left) (log (termCount prob) (constantTerms prob) (prob .constraints) fuel b ++ es)
-  runs-log zero d b a l left es g = runs-solved d b (omega (arith, a .1)) (at-zero (termCount prob) (constantTerms prob) (prob .sets) (prob .constraints) (constraints-in prob acc) b (a .0) l) left es g
+  runs-log zero d b a l left es g = runs-solved d b (omega (arith, a .1)) (at-zero (termCount prob) (constantTerms prob) (setCount prob) (prob .constraints) (constraints-in prob acc) b (a .0) l) left es g
   runs-log (suc fuel) d b a l left es g = go (nextOf prob b) refl (runs-log fuel (suc d))
     where
-      go : (x : Next) → nextOf prob b ≡ x → ((c : Branch) → At prob acc (suc d) c → measure (termCount prob) (prob .sets) c ≤ fuel → (left : List (ℕ × Branch)) (es : List Event) → Runs left es → Runs ((suc d, c) ∷ left) (log (termCount prob) (constantTerms prob) (prob .constraints) fuel c ++ es))
+      go : (x : Next) → nextOf prob b ≡ x → ((c : Branch) → At prob acc (suc d) c → measure (termCount prob) (setCount prob) c ≤ fuel → (left : List (ℕ × Branch)) (es : List Event) → Runs left es → Runs ((suc d, c) ∷ left) (log (termCount prob) (constantTerms prob) (prob .constraints) fuel c ++ es))
           → Runs ((d, b) ∷ left) (log (termCount prob) (constantTerms prob) (prob .constraints) (suc fuel) b ++ es)
       go solved q ih = rw (q, log) (runs-solved d b (omega (arith, a .1)) q left es g)
       go (step r cs) q ih = rw (q, log)
           (runs-step d b (omega (arith, a .1, some-left prob acc b (a .0) r cs q)) r cs q left (gather (log (termCount prob) (constantTerms prob) (prob .constraints) fuel) cs ++ es)
-          (runs-all fuel (suc d) ih cs (Each-imp (λ c. At prob acc (suc d) c × (measure (termCount prob) (prob .sets) c < measure (termCount prob) (prob .sets) b)) (λ c. At prob acc (suc d) c × (measure (termCount prob) (prob .sets) c ≤ fuel)) cs (λ c z. (z .0, omega (arith, z .1))) (at-step prob acc d b a r cs q)) left es g))
+          (runs-all fuel (suc d) ih cs (Each-imp (λ c. At prob acc (suc d) c × (measure (termCount prob) (setCount prob) c < measure (termCount prob) (setCount prob) b)) (λ c. At prob acc (suc d) c × (measure (termCount prob) (setCount prob) c ≤ fuel)) cs (λ c z. (z .0, omega (arith, z .1))) (at-step prob acc d b a r cs q)) left es g))
 
   -- the whole run
   runs-whole : (s : Progress) → s .steps ≡ 0 → s .records ≡ [] → (ps : List ℕ) × Works prob budget room ((0, start (termCount prob)) ∷ []) s (verdictOf (run prob budget room .end) (s .forms + run prob budget room .forms)) (plus s (run prob budget room)) ps × Each (λ d. d ≤ bound prob acc) ps
   runs-whole s e f =
-      let L : List Event = log (termCount prob) (constantTerms prob) (prob .constraints) (termCount prob * suc (prob .sets)) (start (termCount prob)) in
-      let g = runs-log (termCount prob * suc (prob .sets)) 0 (start (termCount prob)) (at-start prob acc) (le-of-eq (start-measure (termCount prob) (prob .sets))) [] [] runs-end s budget room (omega arith) (ap (λ (x : List ℕ). length x + room) f ∙ omega arith) in
+      let L : List Event = log (termCount prob) (constantTerms prob) (prob .constraints) (termCount prob * suc (setCount prob)) (start (termCount prob)) in
+      let g = runs-log (termCount prob * suc (setCount prob)) 0 (start (termCount prob)) (at-start prob acc) (le-of-eq (start-measure (termCount prob) (setCount prob))) [] [] runs-end s budget room (omega arith) (ap (λ (x : List ℕ). length x + room) f ∙ omega arith) in
       subst (λ (es : List Event). (ps : List ℕ) × Works prob budget room ((0, start (termCount prob)) ∷ []) s (verdictOf (tally (termCount prob) budget room es .end) (s .forms + tally (termCount prob) budget room es .forms)) (plus s (tally (termCount prob) budget room es)) ps × Each (λ d. d ≤ bound prob acc) ps) (append-nil L) g
 
-abbrev pub unbegun : Progress
-unbegun = record { steps = 0; forms = 0; records = []; trace = [] }
-
-pub run-goes : (prob : Problem) → Accepted prob → (budget room : ℕ)
-    → (ps : List ℕ) × Works prob budget room ((0, start (termCount prob)) ∷ []) unbegun (verdictOf (run prob budget room .end) (run prob budget room .forms)) (record { steps = run prob budget room .steps; forms = run prob budget room .forms; records = run prob budget room .records; trace = run prob budget room .trace }) ps × Each (λ d. d ≤ termCount prob * suc (prob .sets)) ps
+pub run-goes : (prob : Problem) → Valid prob → (budget room : ℕ)
+    → (ps : List ℕ) × Works prob budget room ((0, start (termCount prob)) ∷ []) unbegun (verdictOf (run prob budget room .end) (run prob budget room .forms)) (record { steps = run prob budget room .steps; forms = run prob budget room .forms; records = run prob budget room .records; trace = run prob budget room .trace }) ps × Each (λ d. d ≤ termCount prob * suc (setCount prob)) ps
 run-goes prob acc budget room =
     let g = runs-whole prob acc budget room unbegun refl refl in
     let u : Tally = run prob budget room in

@@ -1,17 +1,14 @@
 -- The two calls: what is handed in, what is answered, and the lent buffers as they are left.
-use mathlib.Core.Path.{_≡_, refl}
-use mathlib.Core.Bool.{Bool, true, false, _&&_, cond}
+use mathlib.Core.Bool.{Bool, true, false}
 use mathlib.Core.Option.{Option, none, some}
-use mathlib.Core.List.{List, [], _∷_, _++_, map}
+use mathlib.Core.List.{List, [], _∷_, _++_}
 use Prim.Native.Nat.{ℕ, zero, suc, _+_, _*_}
-use lib.ListN.{length, getD, take, drop}
-use lib.Dec.{leb, eqb}
-use lib.IntN.{ℤ, pos}
-use Rattle.calculus.specs.Lists.{upFrom, keep, bit}
-use Rattle.calculus.specs.Questions.{ascending}
-use Rattle.calculus.specs.Reading.{Parsed, parsed, refused, _>>=_, ask, words, read}
-use Rattle.calculus.specs.Check.{lowest}
-use Rattle.calculus.specs.Problem.{Problem, termCount, Assignment, values, classValue}
+use lib.ListN.{length, drop}
+use lib.Dec.{leb}
+use lib.IntN.{pos}
+use Rattle.calculus.specs.Problem.{Problem, values}
+use Rattle.calculus.specs.Reading.{Parsed, parsed, refused, _>>=_, ask, read}
+use Rattle.calculus.specs.Check.{readAssignment, assignmentOf, lowest}
 use Rattle.calculus.specs.Run.{Tally, run}
 use Rattle.calculus.specs.Run as R
 
@@ -30,18 +27,18 @@ pub record Outcome : Type 0 where
   pub forms : List ℕ
   pub trace : List ℕ
 
--- with no branch left FORMS, or FALSE if there are no forms
+-- when no branch is left FORMS, or FALSE if there are none
 abbrev pub verdictOf : R.End → ℕ → Verdict
 verdictOf R.DONE zero = FALSE
 verdictOf R.DONE (suc n) = FORMS
 verdictOf R.SPENT n = SPENT
 verdictOf R.NOROOM n = NOROOM
 
--- written over the beginning of a buffer
+-- written over the beginning of a buffer: later bytes stay unchanged
 abbrev pub over : List ℕ → List ℕ → List ℕ
 over written buffer = written ++ drop (length written) buffer
 
--- questions 1 to 13
+-- questions 1 to 13, of the problem's bytes, the budget and the length of the trace buffer
 unfoldable pub asked : List ℕ → ℕ → ℕ → Parsed Problem
 asked bytes budget room = do
   prob ← read bytes
@@ -52,6 +49,7 @@ asked bytes budget room = do
 abbrev pub left : List ℕ → List ℕ → Tally → Outcome
 left forms trace s = record { answer = ended (verdictOf (s .end) (s .forms)) (s .steps) (s .forms); forms = over (s .records) forms; trace = over (s .trace) trace }
 
+-- a refused call writes to no buffer
 abbrev pub answered : ℕ → List ℕ → List ℕ → Parsed Problem → Outcome
 answered budget forms trace (refused n) = record { answer = refusal n; forms = forms; trace = trace }
 answered budget forms trace (parsed prob) = left forms trace (run prob budget (length forms))
@@ -59,55 +57,12 @@ answered budget forms trace (parsed prob) = left forms trace (run prob budget (l
 unfoldable pub call : List ℕ → ℕ → List ℕ → List ℕ → Outcome
 call bytes budget forms trace = answered budget forms trace (asked bytes budget (length trace))
 
--- ---- a form's model, read off its record: a number for every term (its class's), and for each set the numbers of the roots whose in-mask has it
--- the root that a record gives term t
-abbrev pub recordRoot : List ℕ → ℕ → ℕ
-recordRoot r t = getD r (3 * t) t
-
-abbrev pub modelNumber : Problem → List ℕ → ℕ → ℤ
-modelNumber prob r t = classValue prob (recordRoot r) (recordRoot r t)
-
-abbrev pub model : Problem → List ℕ → Assignment
-model prob r = record {
-  number = λ i. modelNumber prob r (length (prob .constants) + i);
-  members = λ A. map (modelNumber prob r) (keep (λ t. eqb (getD r (3 * t) 0) t && bit (getD r (3 * t + 1) 0) A) (upFrom 0 (termCount prob)));
-}
-
 -- ---- the assignment check
 
 pub data Checked : Type 0 where
   declined : ℕ → Checked
   HOLDS : Checked
   FAILS : ℕ → Checked
-
-unfoldable pub count : List ℕ → Parsed (ℕ × List ℕ)
-count [] = refused 14
-count (b ∷ bs) = parsed (b, bs)
-
-unfoldable pub numbers : ℕ → List ℕ → Parsed (List ℤ × List ℕ)
-numbers n bs = cond (leb (2 * n) (length bs)) (parsed (words (take (2 * n) bs), drop (2 * n) bs)) (refused 14)
-
-abbrev pub membersOf : ℕ → List ℕ → Parsed (List (List ℤ) × List ℕ)
-membersOf zero bs = parsed ([], bs)
-membersOf (suc s) bs = do
-  (n, r₁) ← count bs
-  (xs, r₂) ← numbers n r₁
-  _ ← ask 14 (ascending xs)
-  (xss, r₃) ← membersOf s r₂
-  parsed (xs ∷ xss, r₃)
-
--- question 14: a number for each variables, then a list for each set, and no more
-unfoldable pub readAssignment : Problem → List ℕ → Parsed (List ℤ × List (List ℤ))
-readAssignment prob bs = do
-  (n, r₁) ← count bs
-  _ ← ask 14 (eqb n (prob .variables))
-  (xs, r₂) ← numbers n r₁
-  (xss, r₃) ← membersOf (prob .sets) r₂
-  _ ← ask 14 (eqb (length r₃) 0)
-  parsed (xs, xss)
-
-abbrev pub assignmentOf : List ℤ × List (List ℤ) → Assignment
-assignmentOf g = record { number = λ i. getD (g .0) i (pos 0); members = λ A. getD (g .1) A [] }
 
 abbrev pub found : Parsed (Option ℕ) → Checked
 found (refused n) = declined n
@@ -119,3 +74,24 @@ check bytes assignment = found (do
   prob ← read bytes
   g ← readAssignment prob assignment
   parsed (lowest (values prob (assignmentOf g) (λ _. pos 0)) 0 (prob .constraints)))
+
+-- ---- the answer word: bits 0 to 7 the verdict, 8 to 15 the refusal number or the failing constraint, 16 to 31 the steps, 32 to 63 the solved forms
+
+abbrev pub pack : (verdict number steps forms : ℕ) → ℕ
+pack verdict number steps forms = verdict + 256 * number + 65536 * steps + 4294967296 * forms
+
+-- 0 REFUSED, 1 FORMS, 2 FALSE, 3 SPENT, 4 NO ROOM, 5 HOLDS, 6 FAILS
+abbrev pub verdictNumber : Verdict → ℕ
+verdictNumber FORMS = 1
+verdictNumber FALSE = 2
+verdictNumber SPENT = 3
+verdictNumber NOROOM = 4
+
+unfoldable pub answerWord : Answer → ℕ
+answerWord (refusal n) = pack 0 n 0 0
+answerWord (ended v steps forms) = pack (verdictNumber v) 0 steps forms
+
+unfoldable pub checkWord : Checked → ℕ
+checkWord (declined n) = pack 0 n 0 0
+checkWord HOLDS = pack 5 0 0 0
+checkWord (FAILS i) = pack 6 i 0 0

@@ -1,20 +1,51 @@
--- The assignment check: a test of each constraint, and the lowest constraint that fails.
-use mathlib.Core.Path.{_≡_, refl}
-use mathlib.Core.Bool.{Bool, true, false, _&&_, not}
+-- The assignment check (document 01: the hand check): question 14, a test of each constraint, and the lowest that fails.
+use mathlib.Core.Bool.{Bool, true, false, _&&_, not, cond}
 use mathlib.Core.Option.{Option, none, some}
 use mathlib.Core.List.{List, [], _∷_, map}
-use Prim.Native.Nat.{ℕ, zero, suc}
-use lib.Dec.{eqb}
-use lib.IntN.{ℤ, pos, negsuc}
+use Prim.Native.Nat.{ℕ, zero, suc, _*_}
+use lib.ListN.{length, getD, take, drop}
+use lib.Dec.{leb, eqb}
+use lib.IntN.{ℤ, pos}
 use Rattle.calculus.specs.Lists.{all, any}
-use Rattle.calculus.specs.Relations.{Relation, holdsAt, Negation, unequal, denies}
+use Rattle.calculus.specs.Terms.{Term, SetVar}
+use Rattle.calculus.specs.Relations.{Relation, holdsAt, denies}
 use Rattle.calculus.specs.Meaning.{Constraint, member, nonmember, same, different, relation, negation, exactly, interval, entries, Valuation}
+use Rattle.calculus.specs.Problem.{Problem, setCount, Assignment}
+use Rattle.calculus.specs.Reading.{Parsed, parsed, refused, _>>=_, ask, words, ascending, eqZ}
+use Rattle.calculus.specs.Encoding.{Handed}
 
-abbrev pub eqZ : ℤ → ℤ → Bool
-eqZ (pos m) (pos n) = eqb m n
-eqZ (pos m) (negsuc n) = false
-eqZ (negsuc m) (pos n) = false
-eqZ (negsuc m) (negsuc n) = eqb m n
+-- ---- question 14: a number for each variable, then members for each set, and no more
+
+unfoldable pub count : List ℕ → Parsed (ℕ × List ℕ)
+count [] = refused 14
+count (b ∷ bs) = parsed (b, bs)
+
+unfoldable pub numbers : ℕ → List ℕ → Parsed (List ℤ × List ℕ)
+numbers n bs = cond (leb (2 * n) (length bs)) (parsed (words (take (2 * n) bs), drop (2 * n) bs)) (refused 14)
+
+abbrev pub memberLists : ℕ → List ℕ → Parsed (List (List ℤ) × List ℕ)
+memberLists zero bs = parsed ([], bs)
+memberLists (suc s) bs = do
+  (n, r₁) ← count bs
+  (xs, r₂) ← numbers n r₁
+  _ ← ask 14 (ascending xs)
+  (xss, r₃) ← memberLists s r₂
+  parsed (xs ∷ xss, r₃)
+
+unfoldable pub readAssignment : Problem → List ℕ → Parsed Handed
+readAssignment prob bs = do
+  (n, r₁) ← count bs
+  _ ← ask 14 (eqb n (length (prob .variables)))
+  (xs, r₂) ← numbers n r₁
+  (xss, r₃) ← memberLists (setCount prob) r₂
+  _ ← ask 14 (eqb (length r₃) 0)
+  parsed (record { numbers = xs; sets = xss })
+
+-- what was handed in, as an assignment
+abbrev pub assignmentOf : Handed → Assignment
+assignmentOf g = record { number = λ i. getD (g .numbers) i (pos 0); members = λ A. getD (g .sets) (A .index) [] }
+
+-- ---- the tests
 
 -- membership as a test
 abbrev pub has : List ℤ → ℤ → Bool
@@ -26,7 +57,7 @@ relates? k l m r =
     let t : ℤ → Bool = λ x. holdsAt k (has l x) (has m x) (has r x) in
     all t l && all t m && all t r
 
-abbrev pub exactly? : Valuation → ℕ → List ℕ → Bool
+abbrev pub exactly? : Valuation → SetVar → List Term → Bool
 exactly? v A es = all (has (map (v .num) es)) (v .members A) && all (λ e. has (v .members A) (v .num e)) es
 
 abbrev pub holds? : Valuation → Constraint → Bool

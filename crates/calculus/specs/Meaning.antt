@@ -1,54 +1,50 @@
--- Lines, and what they mean of values for the terms and the sets.
+-- Constraints (document 01: lines), and what they mean of whole numbers for the terms and finite sets for the set variables.
 use mathlib.Core.Path.{_≡_, refl}
 use mathlib.Core.Logic.{_↔_, _⊎_}
-use mathlib.Core.Bool.{Bool, true, false, _&&_, _||_, not, cond}
 use mathlib.Core.List.{List, [], _∷_, _++_, map}
 use Prim.Native.Nat.{ℕ, zero, suc, _+_, _-_}
 use lib.IntN.{ℤ, pos, negsuc}
 use lib.Signed.{_≤ℤ_}
-use Rattle.calculus.specs.Lists.{Each, upFrom}
-use Rattle.calculus.specs.Relations.{Relation, equal, union, disjoint, subset, intersection, Negation, unequal, denies}
+use Rattle.calculus.specs.Terms.{Term, SetVar, termsFrom}
+use Rattle.calculus.specs.Relations.{Relation, equal, union, disjoint, subset, intersection, Negation, denies}
 
--- A constraint: t, u are terms, A, B, C sets; w is the constraint's witness. A relation of two sets leaves C unused.
+-- Kinds 1, 2: member, nonmember; 3, 4: same, different; 5, 7 to 10: relation; 6: negation, with its witness w; 11: exactly; 12: interval. A relation of two sets repeats A for C.
 pub data Constraint : Type 0 where
-  member nonmember : (t A : ℕ) → Constraint
-  same different : (t u : ℕ) → Constraint
-  relation : Relation → (A B C : ℕ) → Constraint
-  negation : Negation → (A B C w : ℕ) → Constraint
-  exactly : (A : ℕ) → List ℕ → Constraint
-  interval : (A i j : ℕ) → Constraint
+  member nonmember : (t : Term) (A : SetVar) → Constraint
+  same different : (t u : Term) → Constraint
+  relation : Relation → (A B C : SetVar) → Constraint
+  negation : Negation → (A B C : SetVar) (w : Term) → Constraint
+  exactly : (A : SetVar) → List Term → Constraint
+  interval : (A : SetVar) (i j : Term) → Constraint
 
--- x is a member of a finite set
+-- x is a member of a finite set, which is a list of its members
 infix 4 _∈_
 abbrev pub _∈_ : ℤ → List ℤ → Type 0
 x ∈ [] = ⊥
 x ∈ (y ∷ ys) = (x ≡ y) ⊎ (x ∈ ys)
 
--- values: a whole number for each term, a finite set for each set
+-- a whole number for each term, a finite set for each set variable
 pub record Valuation : Type 0 where
-  pub num : ℕ → ℤ
-  pub members : ℕ → List ℤ
+  pub num : Term → ℤ
+  pub members : SetVar → List ℤ
 
--- the relations, of one element: P, Q, R say that it is in A, B, C
-abbrev pub PointMeans : Relation → Type 0 → Type 0 → Type 0 → Type 0
-PointMeans equal P Q R = P ↔ Q
-PointMeans union P Q R = R ↔ (P ⊎ Q)
-PointMeans disjoint P Q R = ¬ (P × Q)
-PointMeans subset P Q R = P → Q
-PointMeans intersection P Q R = R ↔ (P × Q)
+-- a relation at one whole number: P, Q, R say that it is in A, in B, in C
+abbrev pub AtPoint : Relation → Type 0 → Type 0 → Type 0 → Type 0
+AtPoint equal P Q R = P ↔ Q
+AtPoint union P Q R = R ↔ (P ⊎ Q)
+AtPoint disjoint P Q R = ¬ (P × Q)
+AtPoint subset P Q R = P → Q
+AtPoint intersection P Q R = R ↔ (P × Q)
 
--- the relations of sets: A = B, C is the union of A and B, A and B share nothing, A is a subset of B, C is the intersection of A and B
+-- A = B; C is the union of A and B; A and B share nothing; A is a subset of B; C is the intersection of A and B
 abbrev pub Relates : Relation → List ℤ → List ℤ → List ℤ → Type 0
-Relates k P Q R = (x : ℤ) → PointMeans k (x ∈ P) (x ∈ Q) (x ∈ R)
+Relates k A B C = (x : ℤ) → AtPoint k (x ∈ A) (x ∈ B) (x ∈ C)
 
--- the values of a list of terms
-abbrev pub valuesOf : (ℕ → ℤ) → List ℕ → List ℤ
-valuesOf f ts = map f ts
+-- the entries of an interval: constants i to j
+abbrev pub entries : Term → Term → List Term
+entries i j = termsFrom (i .index) (suc (j .index) - i .index)
 
-abbrev pub entries : ℕ → ℕ → List ℕ
-entries i j = upFrom i (suc j - i)
-
--- the constraint's meaning
+-- the meaning of a constraint
 abbrev pub Holds : Valuation → Constraint → Type 0
 Holds v (member t A) = v .num t ∈ v .members A
 Holds v (nonmember t A) = ¬ (v .num t ∈ v .members A)

@@ -1,10 +1,10 @@
--- The rules as data.
+-- Rules as data, and the tables of the rules of kinds 5 to 10.
 use mathlib.Core.Bool.{Bool, true, false, _&&_, _||_, not, cond}
 use mathlib.Core.List.{List, [], _∷_, _++_, map}
 use Prim.Native.Nat.{ℕ, zero, suc, _+_}
 use Rattle.calculus.specs.Lists.{imp, all, any}
 
--- A rule at a place, over any kind of fact F. It applies where every fact of `needs` is known and of no list of `unless` all facts are; each list of `gives` makes a child.
+-- A rule at a place, over any type F of facts. It applies where every premise is known and of no list of blockers all facts are known. Each list of alternatives makes a child.
 pub record Rule (F : Type 0) : Type 0 where
   pub rule : ℕ
   pub premises : List F
@@ -15,15 +15,15 @@ module _ {F : Type 0} where
   abbrev pub applies : (F → Bool) → Rule F → Bool
   applies known s = all known (s .premises) && not (any (all known) (s .blockers))
 
-  -- a propagation rule: from `needs` follows f
+  -- a propagation rule (document 01: a forced rule): where the premises hold and f isn't yet known, f
   abbrev pub propagation : ℕ → List F → F → Rule F
   propagation r premises f = record { rule = r; premises = premises; blockers = (f ∷ []) ∷ []; alternatives = (f ∷ []) ∷ [] }
 
-  -- a split that applies unless some child's facts all hold
+  -- a split that applies unless some child's facts are all known
   abbrev pub choice : ℕ → List (List F) → Rule F
   choice r gs = record { rule = r; premises = []; blockers = gs; alternatives = gs }
 
-  -- what is true gives a child that is true
+  -- where the premises are true some alternative is
   abbrev pub sound : (F → Bool) → Rule F → Bool
   sound true? s = imp (all true? (s .premises)) (any (all true?) (s .alternatives))
 
@@ -35,11 +35,11 @@ module _ {F G : Type 0} where
   abbrev pub mapRule : (F → G) → Rule F → Rule G
   mapRule f s = record { rule = s .rule; premises = map f (s .premises); blockers = map (map f) (s .blockers); alternatives = map (map f) (s .alternatives) }
 
--- The relations between sets that hold element by element
+-- The relations between sets: kinds 5, 7, 8, 9 and 10
 pub data Relation : Type 0 where
   equal union disjoint subset intersection : Relation
 
--- of one element: whether it is in A, B, C
+-- a relation at one whole number: whether it is in A, in B, in C
 abbrev pub holdsAt : Relation → Bool → Bool → Bool → Bool
 holdsAt equal a b c = imp a b && imp b a
 holdsAt union a b c = imp c (a || b) && imp (a || b) c
@@ -47,14 +47,14 @@ holdsAt disjoint a b c = not (a && b)
 holdsAt subset a b c = imp a b
 holdsAt intersection a b c = imp c (a && b) && imp (a && b) c
 
--- an operand of a constraint
+-- an operand of a constraint, and a literal: in it, or out of it
 pub data Operand : Type 0 where
   A B C : Operand
 
--- in or out of an operand
 pub data Literal : Type 0 where
   In Out : Operand → Literal
 
+-- rules 5, 6, 8 to 11 and 13 to 18
 abbrev pub propagationRows : Relation → List (Rule Literal)
 propagationRows equal = propagation 5 (In A ∷ []) (In B) ∷ propagation 6 (In B ∷ []) (In A) ∷ []
 propagationRows union =
@@ -64,24 +64,26 @@ propagationRows disjoint = propagation 13 (In A ∷ []) (Out B) ∷ propagation 
 propagationRows subset = propagation 15 (In A ∷ []) (In B) ∷ []
 propagationRows intersection = propagation 16 (In C ∷ []) (In A) ∷ propagation 17 (In C ∷ []) (In B) ∷ propagation 18 (In A ∷ In B ∷ []) (In C) ∷ []
 
--- p in, q and r undecided
-abbrev pub open2 : Operand → Operand → List (List Literal)
-open2 q r = (In q ∷ []) ∷ (Out q ∷ []) ∷ (In r ∷ []) ∷ (Out r ∷ []) ∷ []
-
+-- rule 12: in C, with A and B both undecided: in A, or out of A and in B
 abbrev pub splitRows : Relation → List (Rule Literal)
 splitRows equal = []
-splitRows union = record { rule = 12; premises = In C ∷ []; blockers = open2 A B; alternatives = (In A ∷ []) ∷ (Out A ∷ In B ∷ []) ∷ [] } ∷ []
+splitRows union = record {
+  rule = 12;
+  premises = In C ∷ [];
+  blockers = (In A ∷ []) ∷ (Out A ∷ []) ∷ (In B ∷ []) ∷ (Out B ∷ []) ∷ [];
+  alternatives = (In A ∷ []) ∷ (Out A ∷ In B ∷ []) ∷ [];
+} ∷ []
 splitRows disjoint = []
 splitRows subset = []
 splitRows intersection = []
 
--- The relations that a constraint can deny
+-- The relations that a constraint can deny: kind 6
 pub data Negation : Type 0 where
   unequal : Negation
 
 abbrev pub denies : Negation → Relation
 denies unequal = equal
 
--- the split of a constraint that denies a relation, at its witness
+-- rule 7, at the constraint's witness: in A and out of B, or out of A and in B
 abbrev pub negationRow : Negation → Rule Literal
 negationRow unequal = choice 7 ((In A ∷ Out B ∷ []) ∷ (Out A ∷ In B ∷ []) ∷ [])

@@ -1,0 +1,150 @@
+-- Document 01 a second time, as relations and without fuel: what asserting gives, which place is first, how a run goes, and what its paths are.
+use mathlib.Core.Path.{_≡_, refl}
+use mathlib.Core.Logic.{_⊎_, _≢_}
+use mathlib.Core.Bool.{Bool, true, false}
+use mathlib.Core.Option.{some}
+use mathlib.Core.List.{List, [], _∷_, _++_, map}
+use Prim.Native.Nat.{ℕ, zero, suc, _+_, _*_, _≤_, _<_}
+use lib.ListN.{length, getD}
+use Rattle.calculus.specs.Lists.{Each, Some}
+use Rattle.calculus.specs.Terms.{Term, SetVar, term, setVar}
+use Rattle.calculus.specs.Relations.{equal, union, disjoint, subset, intersection, unequal}
+use Rattle.calculus.specs.Meaning.{Constraint, member, nonmember, same, different, relation, negation, exactly, interval, entries}
+use Rattle.calculus.specs.Branch.{Branch, start, rootAt, root, Fact, In, Out, Same, known, assert}
+use Rattle.calculus.specs.Search.{distinct, Next, solved, step, next}
+use Rattle.calculus.specs.Problem.{Problem, termCount, constantTerms}
+use Rattle.calculus.specs.Forms.{recordOf}
+use Rattle.calculus.specs.Calls.{Verdict, FORMS, FALSE, SPENT, NOROOM}
+
+-- ---- what a branch knows
+
+module _ (b : Branch) where
+  abbrev pub KnownIn : Term → SetVar → Type 0
+  KnownIn t A = known b (In t A) ≡ true
+
+  abbrev pub KnownOut : Term → SetVar → Type 0
+  KnownOut t A = known b (Out t A) ≡ true
+
+  abbrev pub OneClass : Term → Term → Type 0
+  OneClass t u = known b (Same t u) ≡ true
+
+  -- what is known once a fact is asserted: merging unites two classes and their facts
+  abbrev pub Then : Fact → Fact → Type 0
+  Then (In t A) (In u B) = KnownIn u B ⊎ (OneClass t u × (A ≡ B))
+  Then (In t A) (Out u B) = KnownOut u B
+  Then (In t A) (Same u x) = OneClass u x
+  Then (Out t A) (In u B) = KnownIn u B
+  Then (Out t A) (Out u B) = KnownOut u B ⊎ (OneClass t u × (A ≡ B))
+  Then (Out t A) (Same u x) = OneClass u x
+  Then (Same s t) (In u B) = KnownIn u B ⊎ ((OneClass u s ⊎ OneClass u t) × (KnownIn s B ⊎ KnownIn t B))
+  Then (Same s t) (Out u B) = KnownOut u B ⊎ ((OneClass u s ⊎ OneClass u t) × (KnownOut s B ⊎ KnownOut t B))
+  Then (Same s t) (Same u x) = OneClass u x ⊎ ((OneClass u s ⊎ OneClass u t) × (OneClass x s ⊎ OneClass x t))
+
+  -- a conflict, of n terms: a class both in and out of one set, or two constants in one class
+  abbrev pub Conflicts : ℕ → List Term → Fact → Type 0
+  Conflicts n constants f = ((u : Term) × (A : SetVar) × (u .index < n) × Then f (In u A) × Then f (Out u A))
+      ⊎ ((i j : Term) × Some (λ x. x ≡ i) constants × Some (λ x. x ≡ j) constants × (i ≢ j) × Then f (Same i j))
+
+-- a fact on n terms and m sets
+abbrev pub Ranged : ℕ → ℕ → Fact → Type 0
+Ranged n m (In t A) = (t .index < n) × (A .index < m)
+Ranged n m (Out t A) = (t .index < n) × (A .index < m)
+Ranged n m (Same t u) = (t .index < n) × (u .index < n)
+
+-- the branches that asserting leads to
+pub data Reached (n : ℕ) (constants : List Term) (m : ℕ) : Branch → Type 0 where
+  begun : Reached n constants m (start n)
+  asserted : {b c : Branch} (f : Fact) → Reached n constants m b → Ranged n m f → assert constants b f ≡ some c → Reached n constants m c
+
+-- ---- where a rule applies
+
+-- Propagation rules (phase 0) go before splits (phase 1); within either, constraints in order, then rule numbers upward, then positions: roots upward, for rule 19 entries in order.
+pub record Place : Type 0 where
+  pub phase : ℕ
+  pub constraint : ℕ
+  pub rule : ℕ
+  pub position : ℕ
+  -- the root concerned, for the trace
+  pub concerned : Term
+  -- the facts of each child
+  pub alternatives : List (List Fact)
+
+abbrev pub Before : Place → Place → Type 0
+Before p q = (p .phase < q .phase) ⊎ ((p .phase ≡ q .phase) × ((p .constraint < q .constraint) ⊎ ((p .constraint ≡ q .constraint) × ((p .rule < q .rule) ⊎ ((p .rule ≡ q .rule) × (p .position < q .position))))))
+
+module _ (n : ℕ) (b : Branch) where
+  abbrev pub Root : ℕ → Type 0
+  Root h = (h < n) × (rootAt b h ≡ h)
+
+  -- Fires constraint phase rule position concerned alternatives
+  pub data Fires : Constraint → ℕ → ℕ → ℕ → Term → List (List Fact) → Type 0 where
+    rule1 : {t : Term} {A : SetVar} → ¬ KnownIn b t A → Fires (member t A) 0 1 0 (root b t) ((In t A ∷ []) ∷ [])
+    rule2 : {t : Term} {A : SetVar} → ¬ KnownOut b t A → Fires (nonmember t A) 0 2 0 (root b t) ((Out t A ∷ []) ∷ [])
+    rule3 : {t u : Term} → ¬ OneClass b t u → Fires (same t u) 0 3 0 (root b t) ((Same t u ∷ []) ∷ [])
+    rule4 : {t u : Term} → OneClass b t u → Fires (different t u) 0 4 0 (root b t) []
+    rule5 : {A B C : SetVar} {h : ℕ} → Root h → KnownIn b (term h) A → ¬ KnownIn b (term h) B → Fires (relation equal A B C) 0 5 h (term h) ((In (term h) B ∷ []) ∷ [])
+    rule6 : {A B C : SetVar} {h : ℕ} → Root h → KnownIn b (term h) B → ¬ KnownIn b (term h) A → Fires (relation equal A B C) 0 6 h (term h) ((In (term h) A ∷ []) ∷ [])
+    rule8 : {A B C : SetVar} {h : ℕ} → Root h → KnownIn b (term h) A → ¬ KnownIn b (term h) C → Fires (relation union A B C) 0 8 h (term h) ((In (term h) C ∷ []) ∷ [])
+    rule9 : {A B C : SetVar} {h : ℕ} → Root h → KnownIn b (term h) B → ¬ KnownIn b (term h) C → Fires (relation union A B C) 0 9 h (term h) ((In (term h) C ∷ []) ∷ [])
+    rule10 : {A B C : SetVar} {h : ℕ} → Root h → KnownIn b (term h) C → KnownOut b (term h) A → ¬ KnownIn b (term h) B → Fires (relation union A B C) 0 10 h (term h) ((In (term h) B ∷ []) ∷ [])
+    rule11 : {A B C : SetVar} {h : ℕ} → Root h → KnownIn b (term h) C → KnownOut b (term h) B → ¬ KnownIn b (term h) A → Fires (relation union A B C) 0 11 h (term h) ((In (term h) A ∷ []) ∷ [])
+    rule13 : {A B C : SetVar} {h : ℕ} → Root h → KnownIn b (term h) A → ¬ KnownOut b (term h) B → Fires (relation disjoint A B C) 0 13 h (term h) ((Out (term h) B ∷ []) ∷ [])
+    rule14 : {A B C : SetVar} {h : ℕ} → Root h → KnownIn b (term h) B → ¬ KnownOut b (term h) A → Fires (relation disjoint A B C) 0 14 h (term h) ((Out (term h) A ∷ []) ∷ [])
+    rule15 : {A B C : SetVar} {h : ℕ} → Root h → KnownIn b (term h) A → ¬ KnownIn b (term h) B → Fires (relation subset A B C) 0 15 h (term h) ((In (term h) B ∷ []) ∷ [])
+    rule16 : {A B C : SetVar} {h : ℕ} → Root h → KnownIn b (term h) C → ¬ KnownIn b (term h) A → Fires (relation intersection A B C) 0 16 h (term h) ((In (term h) A ∷ []) ∷ [])
+    rule17 : {A B C : SetVar} {h : ℕ} → Root h → KnownIn b (term h) C → ¬ KnownIn b (term h) B → Fires (relation intersection A B C) 0 17 h (term h) ((In (term h) B ∷ []) ∷ [])
+    rule18 : {A B C : SetVar} {h : ℕ} → Root h → KnownIn b (term h) A → KnownIn b (term h) B → ¬ KnownIn b (term h) C → Fires (relation intersection A B C) 0 18 h (term h) ((In (term h) C ∷ []) ∷ [])
+    rule19 : {A : SetVar} {es : List Term} (p : ℕ) → p < length es → ¬ KnownIn b (getD es p (term 0)) A → Fires (exactly A es) 0 19 p (root b (getD es p (term 0))) ((In (getD es p (term 0)) A ∷ []) ∷ [])
+    rule19′ : {A : SetVar} {i j : Term} (p : ℕ) → p < length (entries i j) → ¬ KnownIn b (getD (entries i j) p (term 0)) A → Fires (interval A i j) 0 19 p (root b (getD (entries i j) p (term 0))) ((In (getD (entries i j) p (term 0)) A ∷ []) ∷ [])
+    rule7 : {A B C : SetVar} {w : Term} → ¬ (KnownIn b w A × KnownOut b w B) → ¬ (KnownOut b w A × KnownIn b w B) → Fires (negation unequal A B C w) 1 7 0 (root b w) ((In w A ∷ Out w B ∷ []) ∷ (Out w A ∷ In w B ∷ []) ∷ [])
+    rule12 : {A B C : SetVar} {h : ℕ} → Root h → KnownIn b (term h) C → ¬ KnownIn b (term h) A → ¬ KnownOut b (term h) A → ¬ KnownIn b (term h) B → ¬ KnownOut b (term h) B → Fires (relation union A B C) 1 12 h (term h) ((In (term h) A ∷ []) ∷ (Out (term h) A ∷ In (term h) B ∷ []) ∷ [])
+    rule20 : {A : SetVar} {h : ℕ} {es : List Term} → Root h → KnownIn b (term h) A → ((p : ℕ) → p < length es → ¬ OneClass b (term h) (getD es p (term 0))) → Fires (exactly A es) 1 20 h (term h) (map (λ e. Same (term h) e ∷ []) (distinct (map (root b) es)))
+    rule20′ : {A : SetVar} {h : ℕ} {i j : Term} → Root h → KnownIn b (term h) A → ((p : ℕ) → p < length (entries i j) → ¬ OneClass b (term h) (getD (entries i j) p (term 0))) → Fires (interval A i j) 1 20 h (term h) (map (λ e. Same (term h) e ∷ []) (distinct (map (root b) (entries i j))))
+
+-- ---- paths, and how a run goes
+
+module _ (prob : Problem) where
+  abbrev pub nextOf : Branch → Next
+  nextOf b = next (termCount prob) (constantTerms prob) (prob .constraints) b
+
+  -- a rule applies at a place of the problem
+  abbrev pub Enabled : Branch → Place → Type 0
+  Enabled b p = (p .constraint < length (prob .constraints)) × Fires (termCount prob) b (getD (prob .constraints) (p .constraint) (member (term 0) (setVar 0))) (p .phase) (p .rule) (p .position) (p .concerned) (p .alternatives)
+
+  -- the steps applied on the way from the start to a branch
+  pub data Path : ℕ → Branch → Type 0 where
+    begin : Path 0 (start (termCount prob))
+    onward : {d : ℕ} {b c : Branch} {r : List ℕ} {cs : List Branch} → Path d b → nextOf b ≡ step r cs → Some (λ x. x ≡ c) cs → Path (suc d) c
+
+-- what a run has done so far
+pub record Progress : Type 0 where
+  pub steps : ℕ
+  pub forms : ℕ
+  pub records : List ℕ
+  pub trace : List ℕ
+
+abbrev pub unbegun : Progress
+unbegun = record { steps = 0; forms = 0; records = []; trace = [] }
+
+abbrev pub withForm : Progress → List ℕ → Progress
+withForm s r = record { steps = s .steps; forms = suc (s .forms); records = s .records ++ r; trace = s .trace }
+
+abbrev pub withStep : Progress → List ℕ → Progress
+withStep s r = record { steps = suc (s .steps); forms = s .forms; records = s .records; trace = s .trace ++ r }
+
+module _ (prob : Problem) (budget room : ℕ) where
+  -- Works left s v e ps: with the branches of `left` to be worked, each with the steps on the way to it, and s done, the run ends in v with e done; ps are the lengths of the paths to each form, closed branch and stop from here on.
+  pub data Works : List (ℕ × Branch) → Progress → Verdict → Progress → List ℕ → Type 0 where
+    all-worked : {s : Progress} → s .forms ≢ 0 → Works [] s FORMS s []
+    none-listed : {s : Progress} → s .forms ≡ 0 → Works [] s FALSE s []
+    -- a form first: its record fits what is left of the form buffer, or not
+    listing : {d : ℕ} {b : Branch} {left : List (ℕ × Branch)} {s e : Progress} {v : Verdict} {ps : List ℕ} → nextOf prob b ≡ solved → length (s .records) + 3 * termCount prob ≤ room
+        → Works left (withForm s (recordOf (termCount prob) b)) v e ps → Works ((d, b) ∷ left) s v e (d ∷ ps)
+    no-room : {d : ℕ} {b : Branch} {left : List (ℕ × Branch)} {s : Progress} → nextOf prob b ≡ solved → room < length (s .records) + 3 * termCount prob → Works ((d, b) ∷ left) s NOROOM s (d ∷ [])
+    -- otherwise, if steps equal the budget
+    spending : {d : ℕ} {b : Branch} {left : List (ℕ × Branch)} {s : Progress} {r : List ℕ} {cs : List Branch} → nextOf prob b ≡ step r cs → s .steps ≡ budget → Works ((d, b) ∷ left) s SPENT s (d ∷ [])
+    -- otherwise a step: the branch closes, or its children are worked in order before what is left
+    closing : {d : ℕ} {b : Branch} {left : List (ℕ × Branch)} {s e : Progress} {v : Verdict} {ps r : List ℕ} → nextOf prob b ≡ step r [] → s .steps ≢ budget
+        → Works left (withStep s r) v e ps → Works ((d, b) ∷ left) s v e (suc d ∷ ps)
+    stepping : {d : ℕ} {b c : Branch} {cs : List Branch} {left : List (ℕ × Branch)} {s e : Progress} {v : Verdict} {ps r : List ℕ} → nextOf prob b ≡ step r (c ∷ cs) → s .steps ≢ budget
+        → Works (map (λ x. (suc d, x)) (c ∷ cs) ++ left) (withStep s r) v e ps → Works ((d, b) ∷ left) s v e ps
