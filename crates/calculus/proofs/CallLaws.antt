@@ -27,8 +27,10 @@ use Rattle.calculus.specs.Reading.{Parsed, parsed, refused, _>>=_, ask, 
 use Rattle.calculus.specs.Calls.{Verdict, FORMS, FALSE, SPENT, NOROOM, Answer, refusal, ended, Outcome, verdictOf, over, asked, left, answered, call}
 use Rattle.calculus.specs.Order.{nextOf, Path, Progress, Works}
 use Rattle.calculus.specs.Demands.{Follows, SameSolutions, Stops, Asks, Kept}
-use Rattle.calculus.proofs.Bools.{Each-imp, Each-app}
+use Rattle.calculus.proofs.Bools.{Each-all, Each-imp, Each-app}
 use Rattle.calculus.proofs.Records.{record-length, run-solutions}
+use Rattle.calculus.proofs.Parsing.{bind-parsed, ask-parsed}
+use Rattle.calculus.proofs.LogEvents.{log-each}
 use Rattle.calculus.proofs.ReadValid.{read-valid}
 use Rattle.calculus.proofs.WorkOrder.{run-goes}
 
@@ -108,17 +110,8 @@ module _ (n : ℕ) (k : List Term) where
     next-four b none r cs e = let w : false ≡ true = cc in absurd (false≢true w)
     next-four b (some p) r cs e = let z : (p .move .rule ∷ p .constraint ∷ p .concerned .index ∷ length (children k b (p .move)) ∷ []) ≡ r = cc in ap (length {A = ℕ}) (sym z)
 
-    gather-four : (f : Branch → List Event) → ((b : Branch) → Each Four (f b)) → (cs : List Branch) → Each Four (gather f cs)
-    gather-four f h [] = tt
-    gather-four f h (c ∷ cs) = Each-app Four (f c) (gather f cs) (h c) (gather-four f h cs)
-
     log-four : (fuel : ℕ) (b : Branch) → Each Four (log n k ls fuel b)
-    log-four zero b = (tt, tt)
-    log-four (suc fuel) b = go (next n k ls b) refl (log-four fuel)
-      where
-        go : (x : Next) → next n k ls b ≡ x → ((b : Branch) → Each Four (log n k ls fuel b)) → Each Four (log n k ls (suc fuel) b)
-        go solved q ih = rw (q, log) (tt, tt)
-        go (step r cs) q ih = rw (q, log) (next-four b (first (λ (p : Candidate). applies (known b) (p .move)) (places n ls b)) r cs q, gather-four (log n k ls fuel) ih cs)
+    log-four fuel b = log-each n k ls (λ _. Unit {0}) Four (λ _ _. tt) (λ b _ r cs q. (next-four b (first (λ (p : Candidate). applies (known b) (p .move)) (places n ls b)) r cs q, Each-all (λ _. Unit {0}) (λ _. tt) cs)) fuel b tt
 
 -- ---- the buffers
 
@@ -131,7 +124,7 @@ listed-app size (suc c) xs ys e =
 
 -- ---- what a call is
 
-asked-one : (bytes : List ℕ) (budget room : ℕ) (prob : Problem) → read bytes ≡ parsed prob → (asked bytes budget room ≡ parsed prob) ⊎ ((n : ℕ) × (asked bytes budget room ≡ refused n))
+pub asked-one : (bytes : List ℕ) (budget room : ℕ) (prob : Problem) → read bytes ≡ parsed prob → (asked bytes budget room ≡ parsed prob) ⊎ ((n : ℕ) × (asked bytes budget room ≡ refused n))
 unfolding asked _>>=_ ask
 asked-one bytes budget room prob e = go (leb budget 10000) (leb (4 * budget) room) refl refl
   where
@@ -140,18 +133,15 @@ asked-one bytes budget room prob e = go (leb budget 10000) (leb (4 * budget) roo
     go true false p q = inr (13, rw (e, p, q))
     go false b p q = inr (12, rw (e, p))
 
-asked-read : (bytes : List ℕ) (budget room : ℕ) (prob : Problem) → asked bytes budget room ≡ parsed prob → read bytes ≡ parsed prob
-unfolding asked _>>=_ ask
-asked-read bytes budget room prob e = go (read bytes) refl
-  where
-    go : (m : Parsed Problem) → read bytes ≡ m → read bytes ≡ parsed prob
-    go (refused n) q = let z : _≡_ {A = Parsed Problem} (refused n) (parsed prob) = rw (q, asked) at e in let w : false ≡ true = cc in absurd (false≢true w)
-    go (parsed s) q = q ∙ same (leb budget 10000) (leb (4 * budget) room) refl refl
-      where
-        same : (a b : Bool) → leb budget 10000 ≡ a → leb (4 * budget) room ≡ b → _≡_ {A = Parsed Problem} (parsed s) (parsed prob)
-        same true true x y = rw (q, x, y, asked) at e
-        same true false x y = let z : _≡_ {A = Parsed Problem} (refused 13) (parsed prob) = rw (q, x, y, asked) at e in let w : false ≡ true = cc in absurd (false≢true w)
-        same false b x y = let z : _≡_ {A = Parsed Problem} (refused 12) (parsed prob) = rw (q, x, asked) at e in let w : false ≡ true = cc in absurd (false≢true w)
+-- what a call that is not refused was asked
+pub asked-parsed : (bytes : List ℕ) (budget room : ℕ) (prob : Problem) → asked bytes budget room ≡ parsed prob → (read bytes ≡ parsed prob) × (budget ≤ 10000) × (4 * budget ≤ room)
+unfolding asked
+asked-parsed bytes budget room prob e =
+    let a = bind-parsed _ _ prob e in
+    let b = ask-parsed 12 _ _ prob (a .2) in
+    let c = ask-parsed 13 _ _ prob (b .1) in
+    let z : a .0 ≡ prob = cc (c .1) in
+    (a .1 ∙ ap parsed z, leb-true budget 10000 (b .0), leb-true (4 * budget) room (c .0))
 
 pub record Was (bytes : List ℕ) (budget : ℕ) (forms trace : List ℕ) (prob : Problem) (v : Verdict) (n c : ℕ) : Type 0 where
   pub forms-are : call bytes budget forms trace .forms ≡ over (run prob budget (length forms) .records) forms
@@ -190,7 +180,7 @@ same-solutions bytes budget forms trace prob e v n c a f g =
 
 pub follows : Follows
 follows bytes budget forms trace prob q v n c a =
-    let e = asked-read bytes budget (length trace) prob q in
+    let e = asked-parsed bytes budget (length trace) prob q .0 in
     let w = was bytes budget forms trace prob e v n c a in
     let acc = read-valid bytes prob e in
     let s : Tally = run prob budget (length forms) in
@@ -241,18 +231,6 @@ asks bytes budget room = (
 over-length : (xs ys : List ℕ) → length xs ≤ length ys → length (over xs ys) ≡ length ys
 over-length xs ys l = omega (arith, length-append xs (drop (length xs) ys), length-drop (length xs) ys)
 
-asked-budget : (bytes : List ℕ) (budget room : ℕ) (prob : Problem) → asked bytes budget room ≡ parsed prob → 4 * budget ≤ room
-unfolding asked _>>=_ ask
-asked-budget bytes budget room prob e = go (leb budget 10000) (leb (4 * budget) room) refl refl
-  where
-    q : read bytes ≡ parsed prob
-    q = asked-read bytes budget room prob e
-
-    go : (a b : Bool) → leb budget 10000 ≡ a → leb (4 * budget) room ≡ b → 4 * budget ≤ room
-    go true true x y = leb-true (4 * budget) room y
-    go true false x y = let z : _≡_ {A = Parsed Problem} (refused 13) (parsed prob) = rw (q, x, y, asked) at e in let w : false ≡ true = cc in absurd (false≢true w)
-    go false b x y = let z : _≡_ {A = Parsed Problem} (refused 12) (parsed prob) = rw (q, x, asked) at e in let w : false ≡ true = cc in absurd (false≢true w)
-
 pub kept : Kept
 unfolding call
 kept bytes budget forms trace = (
@@ -263,7 +241,7 @@ kept bytes budget forms trace = (
       let long = records-long (termCount prob) L budget (length forms) in
       let fit = records-fit (termCount prob) L budget (length forms) in
       let few = steps-fit (termCount prob) L budget (length forms) in
-      let room = asked-budget bytes budget (length trace) prob q in
+      let room = asked-parsed bytes budget (length trace) prob q .2 in
       let four = trace-long (termCount prob) (constantTerms prob) L (log-four (termCount prob) (constantTerms prob) (prob .constraints) (termCount prob * suc (setCount prob)) (start (termCount prob))) budget (length forms) in
       rw q (
         verdictOf (s .end) (s .forms),

@@ -1,12 +1,12 @@
 -- The parsers of constraints recognize what `encodeConstraint` writes of constraints that refer to what there is.
-use mathlib.Core.Path.{_≡_, refl, sym, _∙_, ap, ap₂, subst}
-use mathlib.Core.Bool.{Bool, true, false, _&&_, false≢true}
+use mathlib.Core.Path.{_≡_, refl, sym, _∙_, ap, subst}
+use mathlib.Core.Bool.{true, _&&_}
 use mathlib.Core.List.{List, [], _∷_, _++_, map, append-nil}
 use Prim.Native.Nat.{ℕ, zero, suc, _+_, _<_, _≤_}
 use native.Mathlib.Omega.{arith}
-use lib.ListN.{length, getD}
+use lib.ListN.{length, getD, length-map}
 use lib.Dec.{ltb}
-use lib.IntN.{ℤ, pos}
+use lib.IntN.{ℤ}
 use borrow.Author.Tests.{ltb-true, lt-ltb}
 use Rattle.calculus.specs.Lists.{all, Each, gather}
 use Rattle.calculus.specs.Terms.{Term, SetVar, term, setVar}
@@ -14,11 +14,12 @@ use Rattle.calculus.specs.Relations.{Relation, equal, union, disjoint, s
 use Rattle.calculus.specs.Meaning.{Constraint, member, nonmember, same, different, relation, negation, exactly, interval}
 use Rattle.calculus.specs.Problem.{Rising, Refers, uses, Tied, Numbered}
 use Rattle.calculus.specs.Encoding.{encodeConstraint}
-use Rattle.calculus.specs.Reading.{Parsed, parsed, refused, byte, bytes, gapless, Parser, refuse, two, three, ofList, ofInterval, kinds, constraint, constraints}
-use Rattle.calculus.proofs.Bools.{and-l, and-r, and-i, each-all, all-each, Each-imp, Each-map, map-Each, all-map}
+use Rattle.calculus.specs.Reading.{parsed, gapless, Parser, refuse, two, three, ofList, ofInterval, kinds, constraint, constraints}
+use Rattle.calculus.proofs.Bools.{and-l, and-r, and-i, each-all, all-each, Each-imp, Each-map}
 use Rattle.calculus.proofs.Gapless.{gapless-fills, fills-gapless}
 use Rattle.calculus.proofs.Parsers.{Recognizes, pair, OneByte, one, Counted, counted, Given, given, Asked, answered, Then, then, no-answer, byte-reads, bytes-read, gives, asks, same-writing, and-then}
 
+-- how the bytes after the kind say the constraint
 abbrev Form : Type 1
 Form = Constraint → List ℕ → Type 0
 
@@ -47,7 +48,7 @@ module _ (cs : List ℤ) (N S : ℕ) where
   interval-reads : Recognizes pair Spanned (ofInterval cs N S)
   interval-reads = and-then _ byte-reads (λ A. and-then _ byte-reads (λ i. and-then _ byte-reads (λ j. asks 8 _ (omega arith, omega arith) (λ _. asks 9 _ (omega arith, omega arith) (λ _. gives _)))))
 
--- ---- each kind
+-- ---- the kinds
 
 index-term : (xs : List ℕ) → map (λ (e : Term). e .index) (map term xs) ≡ xs
 index-term [] = refl
@@ -57,15 +58,11 @@ term-index : (es : List Term) → map term (map (λ (e : Term). e .index) es) �
 term-index [] = refl
 term-index (e ∷ es) = ap (λ (l : List Term). e ∷ l) (term-index es)
 
-length-map : {A B : Type 0} (f : A → B) (xs : List A) → length (map f xs) ≡ length xs
-length-map f [] = refl
-length-map f (x ∷ xs) = ap suc (length-map f xs)
-
 abbrev Never : Form
 Never l v = ⊥
 
 module _ (cs : List ℤ) (N S : ℕ) (up : Rising cs) (known : length cs ≤ N) (w : ℕ) where
-  -- l is a constraint of kind k that v follows, and refers to what there is
+  -- constraint l is written as kind k and then v, and refers to what there is
   abbrev At : ℕ → Form
   At k l v = (encodeConstraint l ≡ k ∷ v) × Refers cs N S l × Tied w l
 
@@ -92,7 +89,7 @@ module _ (cs : List ℤ) (N S : ℕ) (up : Rising cs) (known : length cs ≤ N) 
     where
       is : (l : Constraint) (v : List ℕ) → Listed cs N S l v → At 11 l v
       is l v (then (one {b = A}) (then (one {b = n}) (then (counted {xs = xs} c) (answered e given)))) =
-          (rw (length-map term xs, c, index-term xs, append-nil xs), (ltb-true A S (and-l (ltb A S) (all (λ e. ltb e N) xs) e), Each-map (λ (t : Term). t .index < N) term xs (Each-imp (λ x. ltb x N ≡ true) (λ x. x < N) xs (λ x q. ltb-true x N q) (each-all (λ e. ltb e N) xs (and-r (ltb A S) (all (λ e. ltb e N) xs) e)))), tt)
+          (rw (length-map xs term, c, index-term xs, append-nil xs), (ltb-true A S (and-l (ltb A S) (all (λ e. ltb e N) xs) e), Each-map (λ (t : Term). t .index < N) term xs (Each-imp (λ x. ltb x N ≡ true) (λ x. x < N) xs (λ x q. ltb-true x N q) (each-all (λ e. ltb e N) xs (and-r (ltb A S) (all (λ e. ltb e N) xs) e)))), tt)
 
   interval-kind : Kind 12 (Spanned cs N S) (ofInterval cs N S)
   interval-kind = (interval-reads cs N S, is)
@@ -136,62 +133,38 @@ module _ (cs : List ℤ) (N S : ℕ) (up : Rising cs) (known : length cs ≤ N) 
       ∷ Spanned cs N S
       ∷ []
 
-  abbrev Table : ℕ → List Form → List Parser → Type 0
-  Table k [] [] = Unit {0}
-  Table k [] (p ∷ ps) = ⊥
-  Table k (F ∷ Fs) [] = ⊥
-  Table k (F ∷ Fs) (p ∷ ps) = Kind k F p × Table (suc k) Fs ps
+  -- the forms and the parsers, side by side, from kind k up
+  infixr 5 _▸_
+  data Table : ℕ → List Form → List Parser → Type 1 where
+    end : {k : ℕ} → Table k [] []
+    _▸_ : {k : ℕ} {F : Form} {p : Parser} {Fs : List Form} {ps : List Parser} → Kind k F p → Table (suc k) Fs ps → Table k (F ∷ Fs) (p ∷ ps)
 
   table : Table 0 forms (kinds cs N S w)
-  table = (
-    no-kind 0,
-    (
-      two-kind 1 N S (termSet member) (λ x y p q. (refl, (p, q), tt)),
-      (
-        two-kind 2 N S (termSet nonmember) (λ x y p q. (refl, (p, q), tt)),
-        (
-          two-kind 3 N N (terms same) (λ x y p q. (refl, (p, q), tt)),
-          (
-            two-kind 4 N N (terms different) (λ x y p q. (refl, (p, q), tt)),
-            (
-              two-kind 5 S S (repeat equal) (λ x y p q. (refl, (p, q, p, refl), tt)),
-              (
-                two-kind 6 S S denial (λ x y p q. (refl, (p, q, refl), refl)),
-                (
-                  three-kind 7 (relation union) (λ A B C p q r. (refl, (p, q, r, tt), tt)),
-                  (
-                    two-kind 8 S S (repeat disjoint) (λ x y p q. (refl, (p, q, p, refl), tt)),
-                    (
-                      two-kind 9 S S (repeat subset) (λ x y p q. (refl, (p, q, p, refl), tt)),
-                      (
-                        three-kind 10 (relation intersection) (λ A B C p q r. (refl, (p, q, r, tt), tt)),
-                        (
-                          list-kind,
-                          (interval-kind, tt),
-                        ),
-                      ),
-                    ),
-                  ),
-                ),
-              ),
-            ),
-          ),
-        ),
-      ),
-    ),
-  )
+  table =
+      no-kind 0
+      ▸ two-kind 1 N S (termSet member) (λ x y p q. (refl, (p, q), tt))
+      ▸ two-kind 2 N S (termSet nonmember) (λ x y p q. (refl, (p, q), tt))
+      ▸ two-kind 3 N N (terms same) (λ x y p q. (refl, (p, q), tt))
+      ▸ two-kind 4 N N (terms different) (λ x y p q. (refl, (p, q), tt))
+      ▸ two-kind 5 S S (repeat equal) (λ x y p q. (refl, (p, q, p, refl), tt))
+      ▸ two-kind 6 S S denial (λ x y p q. (refl, (p, q, refl), refl))
+      ▸ three-kind 7 (relation union) (λ A B C p q r. (refl, (p, q, r, tt), tt))
+      ▸ two-kind 8 S S (repeat disjoint) (λ x y p q. (refl, (p, q, p, refl), tt))
+      ▸ two-kind 9 S S (repeat subset) (λ x y p q. (refl, (p, q, p, refl), tt))
+      ▸ three-kind 10 (relation intersection) (λ A B C p q r. (refl, (p, q, r, tt), tt))
+      ▸ list-kind
+      ▸ interval-kind
+      ▸ end
 
   table-at : (k : ℕ) (Fs : List Form) (ps : List Parser) → Table k Fs ps → (j : ℕ) → Kind (k + j) (getD Fs j Never) (getD ps j (refuse 7))
-  table-at k [] [] t j = no-kind (k + j)
-  table-at k [] (p ∷ ps) t j = absurd t
-  table-at k (F ∷ Fs) [] t j = absurd t
-  table-at k (F ∷ Fs) (p ∷ ps) t zero = let z : k ≡ k + 0 = omega arith in subst (λ (n : ℕ). Kind n F p) z (t .0)
-  table-at k (F ∷ Fs) (p ∷ ps) t (suc j) = let z : suc k + j ≡ k + suc j = omega arith in subst (λ (n : ℕ). Kind n (getD Fs j Never) (getD ps j (refuse 7))) z (table-at (suc k) Fs ps (t .1) j)
+  table-at k Fs ps end j = no-kind (k + j)
+  table-at k Fs ps (_▸_ {F = F} {p = p} h t) zero = let z : k ≡ k + 0 = omega arith in subst (λ (n : ℕ). Kind n F p) z h
+  table-at k Fs ps (_▸_ {Fs = Gs} {ps = qs} h t) (suc j) = let z : suc k + j ≡ k + suc j = omega arith in subst (λ (n : ℕ). Kind n (getD Gs j Never) (getD qs j (refuse 7))) z (table-at (suc k) Gs qs t j)
 
   kind-at : (j : ℕ) → Kind j (getD forms j Never) (getD (kinds cs N S w) j (refuse 7))
   kind-at j = let z : 0 + j ≡ j = omega arith in subst (λ (n : ℕ). Kind n (getD forms j Never) (getD (kinds cs N S w) j (refuse 7))) z (table-at 0 forms (kinds cs N S w) table j)
 
-  -- ---- from a constraint to its kind
+  -- ---- from a constraint to its form
 
   two-of : (p q : ℕ) (make : ℕ → ℕ → Constraint) (x y : ℕ) → x < p → y < q → Two cs N S p q make (make x y) (x ∷ y ∷ [])
   two-of p q make x y l h = then (one {b = x}) (then (one {b = y}) (answered (and-i (lt-ltb x p l) (lt-ltb y q h)) given))
@@ -221,7 +194,7 @@ module _ (cs : List ℤ) (N S : ℕ) (up : Rising cs) (known : length cs ≤ N) 
         A .index ∷ length es ∷ (xs ++ []),
         rw (append-nil xs),
         subst (λ (l : List Term). Listed cs N S (exactly A l) (A .index ∷ length es ∷ (xs ++ []))) (term-index es)
-            (then (one {b = A .index}) (then (one {b = length es}) (then (counted {xs = xs} (length-map (λ (e : Term). e .index) es)) (answered (and-i (lt-ltb (A .index) S (r .0)) t) given)))),
+            (then (one {b = A .index}) (then (one {b = length es}) (then (counted {xs = xs} (length-map es (λ (e : Term). e .index))) (answered (and-i (lt-ltb (A .index) S (r .0)) t) given)))),
       )
   formed (interval A i j) r q = (
     12,

@@ -31,9 +31,16 @@ pub mod Gapless
 pub mod ConstraintParsers
 pub mod Sections
 pub mod ReadValid
+pub mod ReadsWritten
+pub mod Refuses
+pub mod LogEvents
 pub mod WorkOrder
 pub mod CallLaws
 pub mod Models
 pub mod CheckLaws
 pub mod Checking
 pub mod Low
+pub mod Sizes
+pub mod StepBounds
+pub mod ByteLaws
+pub mod AnswerLaws

@@ -33,6 +33,7 @@ use Rattle.calculus.proofs.MaskBounds.{Small, assert-small, start-small
 use Rattle.calculus.proofs.Measure.{measure}
 use Rattle.calculus.proofs.Stepping.{step-fit, step-keeps, terms-each}
 use Rattle.calculus.proofs.LogLaws.{Full}
+use Rattle.calculus.proofs.LogEvents.{log-each, OfForm, forms-each}
 use Rattle.calculus.proofs.Start.{start-fit}
 use Rattle.calculus.proofs.ConstraintLaws.{InScope, constraints-in, holds-any}
 use Rattle.calculus.proofs.Solutions.{forms-full, model-both, below-is}
@@ -41,11 +42,6 @@ use Rattle.calculus.proofs.ReadValid.{read-valid}
 use Rattle.calculus.proofs.CallLaws.{records-long, listed-app, was, same-solutions}
 
 -- ---- masks of the forms
-
-formsOf-app : (xs ys : List Event) → formsOf (xs ++ ys) ≡ formsOf xs ++ formsOf ys
-formsOf-app [] ys = refl
-formsOf-app (formed b ∷ xs) ys = ap (λ (r : List Branch). b ∷ r) (formsOf-app xs ys)
-formsOf-app (stepped r ∷ xs) ys = formsOf-app xs ys
 
 module _ (prob : Problem) (acc : Valid prob) where
   abbrev N : ℕ
@@ -57,23 +53,22 @@ module _ (prob : Problem) (acc : Valid prob) where
   abbrev M : ℕ
   M = setCount prob
 
-  -- what asserting keeps, the start has and every form has
-  module _ (P : Branch → Type 0) (h : (f : Fact) → Ranged N M f → (c d : Branch) → P c → assert K c f ≡ some d → P d) where
-    all-kept : (f : Branch → List Event) → ((b : Branch) → WellFormed N K b → P b → Each P (formsOf (f b))) → (cs : List Branch) → Each (λ c. WellFormed N K c × P c) cs → Each P (formsOf (gather f cs))
-    all-kept f g [] e = tt
-    all-kept f g (c ∷ cs) e = rw (formsOf-app (f c) (gather f cs)) (Each-app P (formsOf (f c)) (formsOf (gather f cs)) (g c (e .0 .0) (e .0 .1)) (all-kept f g cs (e .1)))
+  -- a branch of the run: sound, with masks of the problem's sets
+  abbrev pub Kept : Branch → Type 0
+  Kept b = WellFormed N K b × Small M b
 
-    log-kept : (fuel : ℕ) (b : Branch) → WellFormed N K b → P b → Each P (formsOf (log N K (prob .constraints) fuel b))
-    log-kept zero b F p = (p, tt)
-    log-kept (suc fuel) b F p = go (next N K (prob .constraints) b) refl (log-kept fuel)
-      where
-        go : (x : Next) → next N K (prob .constraints) b ≡ x → ((b : Branch) → WellFormed N K b → P b → Each P (formsOf (log N K (prob .constraints) fuel b))) → Each P (formsOf (log N K (prob .constraints) (suc fuel) b))
-        go solved q ih = rw (q, log) (p, tt)
-        go (step r cs) q ih = rw (q, log) (all-kept (log N K (prob .constraints) fuel) ih cs
-            (Each-zip (λ c. WellFormed N K c × (measure N M c < measure N M b)) P (λ c. WellFormed N K c × P c) cs (λ c x y. (x .0, y)) (step-fit N K M (prob .constraints) (constraints-in prob acc) b F r cs q) (step-keeps N K M (prob .constraints) (constraints-in prob acc) b F P h p r cs q)))
+  pub start-kept : Kept (start N)
+  start-kept = (start-fit N K, start-small N M)
+
+  pub step-kept : (b : Branch) → Kept b → (r : List ℕ) (cs : List Branch) → next N K (prob .constraints) b ≡ step r cs → Each Kept cs
+  step-kept b p r cs q =
+      Each-zip (λ c. WellFormed N K c × (measure N M c < measure N M b)) (Small M) Kept cs (λ c x y. (x .0, y)) (step-fit N K M (prob .constraints) (constraints-in prob acc) b (p .0) r cs q)
+      (step-keeps N K M (prob .constraints) (constraints-in prob acc) b (p .0) (Small M) (λ f r c d s q. assert-small M c s N K f r d q) (p .1) r cs q)
 
   forms-small : Each (Small M) (problemForms prob)
-  forms-small = log-kept (Small M) (λ f r c d s q. assert-small M c s N K f r d q) (N * suc M) (start N) (start-fit N K) (start-small N M)
+  forms-small =
+      forms-each (Small M) (log N K (prob .constraints) (N * suc M) (start N))
+      (log-each N K (prob .constraints) Kept (OfForm (Small M)) (λ b p. p .1) (λ b p r cs q. (tt, step-kept b p r cs q)) (N * suc M) (start N) start-kept)
 
 -- ---- a record read back
 

@@ -1,24 +1,30 @@
 -- A parser recognizes what is written in a given way: it reads just that, refuses it with 2 where it is cut short, and passes on what follows.
 use mathlib.Core.Path.{_≡_, refl, sym, _∙_, ap, subst}
 use mathlib.Core.Logic.{_⊎_, inl, inr}
-use mathlib.Core.Bool.{Bool, true, false, cond, false≢true}
+use mathlib.Core.Bool.{Bool, true, false, false≢true}
 use mathlib.Core.List.{List, [], _∷_, _++_, append-assoc}
 use Prim.Native.Nat.{ℕ, zero, suc, _+_, _-_, _<_, _≤_}
 use native.Mathlib.Omega.{arith}
 use native.Mathlib.Decide.{decLt}
-use native.Mathlib.Nat.{le-of-suc-le-suc}
 use lib.ListN.{length, take, drop, take-append-drop, length-take, length-append}
+use lib.Seq.{take-append-seam, drop-append-seam, take-append-le, take-append-add}
 use lib.Dec.{leb}
 use borrow.Author.Tests.{leb-true, le-leb, lt-leb}
 use Rattle.calculus.specs.Reading.{Parsed, parsed, refused, _>>=_, ask, byte, bytes}
 
 -- ---- what an answer came from
 
+pub no-answer : {A : Type 0} {n : ℕ} {c : A} {X : Type 0} → _≡_ {A = Parsed A} (refused n) (parsed c) → X
+no-answer e = let w : false ≡ true = cc in absurd (false≢true w)
+
+pub no-refusal : {A : Type 0} {n : ℕ} {c : A} {X : Type 0} → _≡_ {A = Parsed A} (parsed c) (refused n) → X
+no-refusal e = let w : false ≡ true = cc in absurd (false≢true w)
+
 module _ {A B : Type 0} where
   pub bound : (m : Parsed A) (f : A → Parsed B) (c : B) → (m >>= f) ≡ parsed c → (a : A) × (m ≡ parsed a) × (f a ≡ parsed c)
   unfolding _>>=_
   bound (parsed a) f c e = (a, refl, e)
-  bound (refused n) f c e = let w : false ≡ true = cc in absurd (false≢true w)
+  bound (refused n) f c e = no-answer e
 
   pub stopped : (m : Parsed A) (f : A → Parsed B) (n : ℕ) → (m >>= f) ≡ refused n → (m ≡ refused n) ⊎ ((a : A) × (m ≡ parsed a) × (f a ≡ refused n))
   unfolding _>>=_
@@ -38,6 +44,7 @@ pub record Recognizes {A B : Type 0} (out : A → List ℕ → Parsed B) (W : A 
 abbrev pub pair : {A : Type 0} → A → List ℕ → Parsed (A × List ℕ)
 pair a rest = parsed (a, rest)
 
+-- how things are written: one byte, n bytes, nothing, where a test passes, one after another
 pub data OneByte : ℕ → List ℕ → Type 0 where
   one : {b : ℕ} → OneByte b (b ∷ [])
 
@@ -53,34 +60,7 @@ pub data Asked {A : Type 0} (t : Bool) (W : A → List ℕ → Type 0) : A → L
 pub data Then {A B : Type 0} (W : A → List ℕ → Type 0) (U : A → B → List ℕ → Type 0) : B → List ℕ → Type 0 where
   then : {a : A} {b : B} {u v : List ℕ} → W a u → U a b v → Then W U b (u ++ v)
 
--- ---- the front of a list
-
-module _ {A : Type 0} where
-  pub take-front : (k : ℕ) (u v : List A) → k < length u → take k (u ++ v) ≡ take k u
-  take-front k [] v l = absurd (omega arith)
-  take-front zero (x ∷ u) v l = refl
-  take-front (suc k) (x ∷ u) v l = ap (λ (r : List A). x ∷ r) (take-front k u v (le-of-suc-le-suc l))
-
-  pub take-past : (k : ℕ) (u v : List A) → length u ≤ k → take k (u ++ v) ≡ u ++ take (k - length u) v
-  take-past k [] v l = let z : k ≡ k - 0 = omega arith in ap (λ (j : ℕ). take j v) z
-  take-past zero (x ∷ u) v l = absurd (omega arith)
-  take-past (suc k) (x ∷ u) v l = ap (λ (r : List A). x ∷ r) (let z : k - length u ≡ suc k - suc (length u) = omega arith in take-past k u v (le-of-suc-le-suc l) ∙ ap (λ (j : ℕ). u ++ take j v) z)
-
-  pub take-all : (u v : List A) → take (length u) (u ++ v) ≡ u
-  take-all [] v = refl
-  take-all (x ∷ u) v = ap (λ (r : List A). x ∷ r) (take-all u v)
-
-  pub drop-all : (u v : List A) → drop (length u) (u ++ v) ≡ v
-  drop-all [] v = refl
-  drop-all (x ∷ u) v = drop-all u v
-
 -- ---- the parsers
-
-pub no-answer : {A : Type 0} {n : ℕ} {c : A} {X : Type 0} → _≡_ {A = Parsed A} (refused n) (parsed c) → X
-no-answer e = let w : false ≡ true = cc in absurd (false≢true w)
-
-pub no-refusal : {A : Type 0} {n : ℕ} {c : A} {X : Type 0} → _≡_ {A = Parsed A} (parsed c) (refused n) → X
-no-refusal e = let w : false ≡ true = cc in absurd (false≢true w)
 
 pub byte-reads : Recognizes pair OneByte byte
 unfolding byte
@@ -106,7 +86,7 @@ unfolding bytes
 bytes-read n = record { reads = reads; wrote = λ bs c. wrote bs c (leb n (length bs)) refl; cut = cut; numbers = λ bs m. numbers bs m (leb n (length bs)) refl }
   where
     reads : (xs u rest : List ℕ) → Counted n xs u → bytes n (u ++ rest) ≡ parsed (xs, rest)
-    reads xs u rest (counted e) = rw (← e, le-leb (length xs) (length (xs ++ rest)) (omega (arith, length-append xs rest)), take-all xs rest, drop-all xs rest)
+    reads xs u rest (counted e) = rw (← e, le-leb (length xs) (length (xs ++ rest)) (omega (arith, length-append xs rest)), take-append-seam xs rest, drop-append-seam xs rest)
 
     wrote : (bs : List ℕ) (c : List ℕ × List ℕ) (t : Bool) → leb n (length bs) ≡ t → bytes n bs ≡ parsed c → (xs : List ℕ) × (u rest : List ℕ) × (bs ≡ u ++ rest) × (pair xs rest ≡ parsed c) × Counted n xs u
     wrote bs c true q e = (take n bs, take n bs, drop n bs, sym (take-append-drop n bs), rw q at e, counted {xs = take n bs} (omega (arith, length-take n bs, leb-true n (length bs) q)))
@@ -179,8 +159,11 @@ module _ {A B C X : Type 0} {pack : A → List ℕ → X} {out : B → List ℕ 
       cut b w j (then {a = a} {u = u} {v = v} x y) l = go (decLt j (length u))
         where
           go : Dec (j < length u) → (p (take j (u ++ v)) >>= k) ≡ refused 2
-          go (yes s) = rw (take-front j u v s, P .cut a u j x s)
-          go (no s) = rw (take-past j u v (omega arith), P .reads a u (take (j - length u) v) x) (F a .cut b v (j - length u) y (omega (arith, length-append u v)))
+          go (yes s) = rw (take-append-le j u v (omega arith), P .cut a u j x s)
+          go (no s) =
+              let z : j ≡ length u + (j - length u) = omega arith in
+              let e : take j (u ++ v) ≡ u ++ take (j - length u) v = ap (λ (i : ℕ). take i (u ++ v)) z ∙ take-append-add u v (j - length u) in
+              rw (e, P .reads a u (take (j - length u) v) x) (F a .cut b v (j - length u) y (omega (arith, length-append u v)))
 
       numbers : (bs : List ℕ) (n : ℕ) → (p bs >>= k) ≡ refused n → (2 ≤ n) × (n ≤ 11)
       numbers bs n e = go (stopped (p bs) k n e)

@@ -201,7 +201,7 @@ module _ (prob : Problem) where
       (parsed-bind _ _ (xss, []) _ (subst (λ (x : List ℕ). memberLists (setCount prob) x ≡ parsed (xss, [])) (append-nil sets) (parsed-lists (setCount prob) xss [] (w .sets) (w .rising) (w .range .1)))
       (parsed-ask 14 _ _ _ refl refl)))))
 
-  assignment-refusals : (bs : List ℕ) → Only14 (readAssignment prob bs)
+  pub assignment-refusals : (bs : List ℕ) (n : ℕ) → readAssignment prob bs ≡ refused n → n ≡ 14
   unfolding readAssignment
   assignment-refusals bs =
       bind-refusals Is14 _ _ (count-refusals bs) (λ c.

@@ -1,8 +1,7 @@
--- A problem that is read is as it is written, and valid.
-use mathlib.Core.Path.{_≡_, refl, sym, _∙_, ap, subst}
-use mathlib.Core.Bool.{Bool, true, false, _&&_}
+-- A problem that is read is valid.
+use mathlib.Core.Path.{_≡_, sym, _∙_, subst}
 use mathlib.Core.List.{List, [], _∷_, _++_, append-nil}
-use Prim.Native.Nat.{ℕ, zero, suc, _+_, _*_, _-_, _<_, _≤_}
+use Prim.Native.Nat.{ℕ, _+_, _-_, _<_, _≤_}
 use native.Mathlib.Omega.{arith}
 use native.Mathlib.Decide.{decLe}
 use lib.ListN.{length}
@@ -11,10 +10,10 @@ use lib.IntN.{ℤ}
 use borrow.Author.Tests.{leb-true, le-leb, lt-leb}
 use Rattle.calculus.specs.Meaning.{Constraint}
 use Rattle.calculus.specs.Problem.{Problem, uses, Numbered, Valid}
-use Rattle.calculus.specs.Reading.{Parsed, parsed, refused, _>>=_, ask, words, ascending, inRange, letters, readConstants, read}
+use Rattle.calculus.specs.Reading.{parsed, refused, _>>=_, ask, words, ascending, inRange, letters, readConstants, read}
 use Rattle.calculus.proofs.Bools.{and-l, and-r}
 use Rattle.calculus.proofs.Words.{ascending-rising, range-is, letters-are}
-use Rattle.calculus.proofs.Parsers.{Recognizes, one, counted, given, answered, then, no-answer, bound}
+use Rattle.calculus.proofs.Parsers.{one, counted, given, answered, then, no-answer}
 use Rattle.calculus.proofs.Sections.{whole, First, first-reads}
 
 -- the first question is of the length alone
