@@ -16,7 +16,7 @@ use Rattle.calculus.specs.Search.{Move, operandOf, factOf, at, over, dis
 use Rattle.calculus.proofs.Bools.{and-l, and-r, and-i, or-cases, or-none-l, or-none-r, imp-at, imp-i, clash, test, not-t, not-f, each-all, all-each, all-map, any-map, Each-app, Each-left, Each-right, Each-all, Each-imp, Each-zip, Each-map, map-Each, Each-gather}
 use Rattle.calculus.proofs.Tables.{litTrue, litKnown, rows, rows-add, negation-add}
 use Rattle.calculus.proofs.Asserting.{WellFormed, below, still, Ranged}
-use Rattle.calculus.proofs.RuleLaws.{adds-steer, known-says, ConstraintIn, over-each, Each-swap}
+use Rattle.calculus.proofs.RuleLaws.{adds-map, known-fact, ConstraintIn, over-each, Each-swap}
 
 -- keeping and telling apart lose nothing
 module _ {X : Type 0} (P : X → Type 0) (p : X → Bool) where
@@ -43,7 +43,7 @@ module _ (n : ℕ) (k : List Term) (m : ℕ) (b : Branch) (F : WellFormed n k b)
   at-tame : (h : Term) (s : Operand → SetVar) → h .index < n → ((p : Operand) → s p .index < m) → (r : Rule Literal)
       → adds (litKnown (λ p. known b (In h (s p))) (λ p. known b (Out h (s p)))) r ≡ true → Tame (at h s r)
   at-tame h s l q r e = (
-    adds-steer (factOf h s) (known b) r ∙ ap (λ (f : Literal → Bool). adds f r) (known-says b h s) ∙ e,
+    adds-map (factOf h s) (known b) r ∙ ap (λ (f : Literal → Bool). adds f r) (known-fact b h s) ∙ e,
     Each-map (λ g. Each (Ranged n m) g) (map (factOf h s)) (r .alternatives)
         (Each-all (λ g. Each (Ranged n m) (map (factOf h s) g)) (λ g. Each-map (Ranged n m) (factOf h s) g (Each-all (λ x. Ranged n m (factOf h s x)) in-range g)) (r .alternatives)),
   )
@@ -64,8 +64,8 @@ module _ (n : ℕ) (k : List Term) (m : ℕ) (b : Branch) (F : WellFormed n k b)
       (each-all (adds (litKnown (λ p. known b (In h (operandOf A B C p))) (λ p. known b (Out h (operandOf A B C p))))) rs
       (add (λ p. known b (In h (operandOf A B C p))) (λ p. known b (Out h (operandOf A B C p)))))
 
-  force-adds : (rule : ℕ) (premises : List Fact) (f : Fact) → adds (known b) (propagation rule premises f) ≡ true
-  force-adds rule premises f = go (all (known b) premises) (known b f)
+  propagation-adds : (rule : ℕ) (premises : List Fact) (f : Fact) → adds (known b) (propagation rule premises f) ≡ true
+  propagation-adds rule premises f = go (all (known b) premises) (known b f)
     where
       go : (x y : Bool) → imp (x && not ((y && true) || false)) (not (y && true) && true) ≡ true
       go true true = refl
@@ -80,9 +80,9 @@ module _ (n : ℕ) (k : List Term) (m : ℕ) (b : Branch) (F : WellFormed n k b)
         (λ r g. Each-imp (λ h. h .index < n) (λ h. Tame (at h (operandOf A B C) r)) hs g hn)
         (Each-swap (λ h r. h .index < n → Tame (at h (operandOf A B C) r)) rs f))
 
-    lists-tame : (A : SetVar) (es : List Term) → A .index < m → Each (λ e. e .index < n) es → Each (λ (p : Term × Move). Tame (p .1)) (listing hs b A es)
-    lists-tame A es l en = Each-map (λ (p : Term × Move). Tame (p .1)) (λ (e : Term). (root b e, propagation 19 [] (In e A))) es
-        (Each-imp (λ e. e .index < n) (λ e. Tame (propagation 19 [] (In e A))) es (λ e q. (force-adds 19 [] (In e A), (((q, l), tt), tt))) en)
+    listing-tame : (A : SetVar) (es : List Term) → A .index < m → Each (λ e. e .index < n) es → Each (λ (p : Term × Move). Tame (p .1)) (listing hs b A es)
+    listing-tame A es l en = Each-map (λ (p : Term × Move). Tame (p .1)) (λ (e : Term). (root b e, propagation 19 [] (In e A))) es
+        (Each-imp (λ e. e .index < n) (λ e. Tame (propagation 19 [] (In e A))) es (λ e q. (propagation-adds 19 [] (In e A), (((q, l), tt), tt))) en)
 
     -- rule 20: no entry's root is the root
     choose-adds : (A : SetVar) (es : List Term) (h : Term) → adds (known b) (choose hs b A es h) ≡ true
@@ -98,8 +98,8 @@ module _ (n : ℕ) (k : List Term) (m : ℕ) (b : Branch) (F : WellFormed n k b)
         (any-none (all (known b)) (map (λ (e : Term). Same h e ∷ []) es)
         (not-t (any (all (known b)) (map (λ (e : Term). Same h e ∷ []) es)) (and-r (known b (In h A) && true) (not (any (all (known b)) (map (λ (e : Term). Same h e ∷ []) es))) ap?)))))))))
 
-    chooses-tame : (A : SetVar) (es : List Term) → Each (λ e. e .index < n) es → Each (λ (p : Term × Move). Tame (p .1)) (choosing hs b A es)
-    chooses-tame A es en = Each-map (λ (p : Term × Move). Tame (p .1)) (λ (h : Term). (h, choose hs b A es h)) hs
+    choosing-tame : (A : SetVar) (es : List Term) → Each (λ e. e .index < n) es → Each (λ (p : Term × Move). Tame (p .1)) (choosing hs b A es)
+    choosing-tame A es en = Each-map (λ (p : Term × Move). Tame (p .1)) (λ (h : Term). (h, choose hs b A es h)) hs
         (Each-imp (λ h. h .index < n) (λ h. Tame (choose hs b A es h)) hs
         (λ h q. (
           choose-adds A es h,
@@ -110,14 +110,14 @@ module _ (n : ℕ) (k : List Term) (m : ℕ) (b : Branch) (F : WellFormed n k b)
         )) hn)
 
     pub propagations-tame : (l : Constraint) → ConstraintIn n m l → Each (λ (p : Term × Move). Tame (p .1)) (propagations hs b l)
-    propagations-tame (member t A) r = ((force-adds 1 [] (In t A), ((r, tt), tt)), tt)
-    propagations-tame (nonmember t A) r = ((force-adds 2 [] (Out t A), ((r, tt), tt)), tt)
-    propagations-tame (same t u) r = ((force-adds 3 [] (Same t u), ((r, tt), tt)), tt)
+    propagations-tame (member t A) r = ((propagation-adds 1 [] (In t A), ((r, tt), tt)), tt)
+    propagations-tame (nonmember t A) r = ((propagation-adds 2 [] (Out t A), ((r, tt), tt)), tt)
+    propagations-tame (same t u) r = ((propagation-adds 3 [] (Same t u), ((r, tt), tt)), tt)
     propagations-tame (different t u) r = ((imp-i (applies (known b) (record { rule = 4; premises = Same t u ∷ []; blockers = []; alternatives = [] })) true (λ _. refl), tt), tt)
     propagations-tame (relation K A B C) r = over-tame A B C (propagationRows K) (λ h. Each-left (λ r. h .index < n → Tame (at h (operandOf A B C) r)) (propagationRows K) (splitRows K) (rows-tame (rows K) (λ i o. rows-add i o K) A B C r h))
     propagations-tame (negation K A B C w) r = tt
-    propagations-tame (exactly A es) r = lists-tame A es (r .0) (r .1)
-    propagations-tame (interval A i j) r = lists-tame A (entries i j) (r .0) (r .1)
+    propagations-tame (exactly A es) r = listing-tame A es (r .0) (r .1)
+    propagations-tame (interval A i j) r = listing-tame A (entries i j) (r .0) (r .1)
 
     pub splits-tame : (l : Constraint) → ConstraintIn n m l → Each (λ (p : Term × Move). Tame (p .1)) (splits hs b l)
     splits-tame (member t A) r = tt
@@ -126,5 +126,5 @@ module _ (n : ℕ) (k : List Term) (m : ℕ) (b : Branch) (F : WellFormed n k b)
     splits-tame (different t u) r = tt
     splits-tame (relation K A B C) r = over-tame A B C (splitRows K) (λ h. Each-right (λ r. h .index < n → Tame (at h (operandOf A B C) r)) (propagationRows K) (splitRows K) (rows-tame (rows K) (λ i o. rows-add i o K) A B C r h))
     splits-tame (negation K A B C w) r = (rows-tame (negationRow K ∷ []) (λ i o. negation-add i o K) A B C (r .0) w .0 (r .1), tt)
-    splits-tame (exactly A es) r = chooses-tame A es (r .1)
-    splits-tame (interval A i j) r = chooses-tame A (entries i j) (r .1)
+    splits-tame (exactly A es) r = choosing-tame A es (r .1)
+    splits-tame (interval A i j) r = choosing-tame A (entries i j) (r .1)

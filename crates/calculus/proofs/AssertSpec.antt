@@ -19,7 +19,7 @@ use Rattle.calculus.proofs.Bools.{and-l, and-r, and-i, or-cases, or-l, 
 use Rattle.calculus.proofs.Truth.{is-some, some-is}
 use Rattle.calculus.specs.Lists.{Some}
 use Rattle.calculus.proofs.Walk.{moved, moved-hi, moved-other}
-use Rattle.calculus.proofs.Asserting.{WellFormed, owned, owning, inside-addInside, outside-addInside, root-addInside, inside-addOutside, outside-addOutside, root-addOutside, inside-merge, outside-merge, below, still, conflictIf-some, conflictIf-none, Merges, already, upper, lower, merges, torn-some, torn-none, root-in, moves, in-ins, in-outs}
+use Rattle.calculus.proofs.Asserting.{WellFormed, owned, owning, inside-addInside, outside-addInside, root-addInside, inside-addOutside, outside-addOutside, root-addOutside, inside-merge, outside-merge, below, still, conflictIf-some, conflictIf-none, Merges, already, upper, lower, merges, torn-some, torn-none, root-in, moves, root-in-insides, root-in-outsides}
 use Rattle.calculus.proofs.Keeping.{assert-fit}
 use Rattle.calculus.proofs.Start.{start-fit}
 
@@ -34,26 +34,26 @@ module _ (n : ℕ) (k : List Term) (m : ℕ) (b : Branch) (F : WellFormed n k b)
   one : (x y : Term) → rootAt b (x .index) ≡ rootAt b (y .index) → OneClass b x y
   one x y e = eq-eqb (rootAt b (x .index)) (rootAt b (y .index)) e
 
-  heads : (x y : Term) → OneClass b x y → rootAt b (x .index) ≡ rootAt b (y .index)
-  heads x y o = eqb-true (rootAt b (x .index)) (rootAt b (y .index)) o
+  one-root : (x y : Term) → OneClass b x y → rootAt b (x .index) ≡ rootAt b (y .index)
+  one-root x y o = eqb-true (rootAt b (x .index)) (rootAt b (y .index)) o
 
   in-of : (x y : Term) (A : SetVar) → OneClass b x y → KnownIn b x A → KnownIn b y A
-  in-of x y A o p = ap (λ (h : ℕ). insideAt b h A) (sym (heads x y o)) ∙ p
+  in-of x y A o p = ap (λ (h : ℕ). insideAt b h A) (sym (one-root x y o)) ∙ p
 
   out-of : (x y : Term) (A : SetVar) → OneClass b x y → KnownOut b x A → KnownOut b y A
-  out-of x y A o p = ap (λ (h : ℕ). outsideAt b h A) (sym (heads x y o)) ∙ p
+  out-of x y A o p = ap (λ (h : ℕ). outsideAt b h A) (sym (one-root x y o)) ∙ p
 
   not-both : (x : Term) (A : SetVar) → KnownIn b x A → KnownOut b x A → ⊥
   not-both x A p q = false≢true (sym (F .clean (rootAt b (x .index)) A) ∙ and-i p q)
 
   alone : (i j : Term) → Some (λ x. x ≡ i) k → Some (λ x. x ≡ j) k → i ≢ j → OneClass b i j → ⊥
-  alone i j p q d o = d (same-index (F .lone (i .index) (j .index) (some-is k i p) (some-is k j q) (heads i j o)))
+  alone i j p q d o = d (same-index (F .lone (i .index) (j .index) (some-is k i p) (some-is k j q) (one-root i j o)))
 
   -- in, out
   module _ (t : Term) (A : SetVar) (lt : t .index < n) where
     addInside-in : (u : Term) (B : SetVar) → (known (addIn b (rootAt b (t .index)) A) (In u B) ≡ true) ↔ Then b (In t A) (In u B)
     addInside-in u B =
-        let e : known (addIn b (rootAt b (t .index)) A) (In u B) ≡ (insideAt b (rootAt b (u .index)) B || (eqb (rootAt b (u .index)) (rootAt b (t .index)) && eqb (B .index) (A .index))) = ap (λ (h : ℕ). insideAt (addIn b (rootAt b (t .index)) A) h B) (root-addInside b (rootAt b (t .index)) A (u .index)) ∙ inside-addInside b (rootAt b (t .index)) A (rootAt b (u .index)) B (in-ins n k m b F (t .index) lt) in
+        let e : known (addIn b (rootAt b (t .index)) A) (In u B) ≡ (insideAt b (rootAt b (u .index)) B || (eqb (rootAt b (u .index)) (rootAt b (t .index)) && eqb (B .index) (A .index))) = ap (λ (h : ℕ). insideAt (addIn b (rootAt b (t .index)) A) h B) (root-addInside b (rootAt b (t .index)) A (u .index)) ∙ inside-addInside b (rootAt b (t .index)) A (rootAt b (u .index)) B (root-in-insides n k m b F (t .index) lt) in
         ((λ p. to (or-cases (insideAt b (rootAt b (u .index)) B) (eqb (rootAt b (u .index)) (rootAt b (t .index)) && eqb (B .index) (A .index)) (sym e ∙ p))), (λ p. e ∙ from p))
       where
         to : (insideAt b (rootAt b (u .index)) B ≡ true) ⊎ ((eqb (rootAt b (u .index)) (rootAt b (t .index)) && eqb (B .index) (A .index)) ≡ true) → Then b (In t A) (In u B)
@@ -62,11 +62,11 @@ module _ (n : ℕ) (k : List Term) (m : ℕ) (b : Branch) (F : WellFormed n k b)
 
         from : Then b (In t A) (In u B) → (insideAt b (rootAt b (u .index)) B || (eqb (rootAt b (u .index)) (rootAt b (t .index)) && eqb (B .index) (A .index))) ≡ true
         from (inl p) = or-l (eqb (rootAt b (u .index)) (rootAt b (t .index)) && eqb (B .index) (A .index)) p
-        from (inr (o, z)) = or-r (insideAt b (rootAt b (u .index)) B) (and-i (eq-eqb (rootAt b (u .index)) (rootAt b (t .index)) (sym (heads t u o))) (eqb-set B A (sym z)))
+        from (inr (o, z)) = or-r (insideAt b (rootAt b (u .index)) B) (and-i (eq-eqb (rootAt b (u .index)) (rootAt b (t .index)) (sym (one-root t u o))) (eqb-set B A (sym z)))
 
     addOutside-out : (u : Term) (B : SetVar) → (known (addOut b (rootAt b (t .index)) A) (Out u B) ≡ true) ↔ Then b (Out t A) (Out u B)
     addOutside-out u B =
-        let e : known (addOut b (rootAt b (t .index)) A) (Out u B) ≡ (outsideAt b (rootAt b (u .index)) B || (eqb (rootAt b (u .index)) (rootAt b (t .index)) && eqb (B .index) (A .index))) = ap (λ (h : ℕ). outsideAt (addOut b (rootAt b (t .index)) A) h B) (root-addOutside b (rootAt b (t .index)) A (u .index)) ∙ outside-addOutside b (rootAt b (t .index)) A (rootAt b (u .index)) B (in-outs n k m b F (t .index) lt) in
+        let e : known (addOut b (rootAt b (t .index)) A) (Out u B) ≡ (outsideAt b (rootAt b (u .index)) B || (eqb (rootAt b (u .index)) (rootAt b (t .index)) && eqb (B .index) (A .index))) = ap (λ (h : ℕ). outsideAt (addOut b (rootAt b (t .index)) A) h B) (root-addOutside b (rootAt b (t .index)) A (u .index)) ∙ outside-addOutside b (rootAt b (t .index)) A (rootAt b (u .index)) B (root-in-outsides n k m b F (t .index) lt) in
         ((λ p. to (or-cases (outsideAt b (rootAt b (u .index)) B) (eqb (rootAt b (u .index)) (rootAt b (t .index)) && eqb (B .index) (A .index)) (sym e ∙ p))), (λ p. e ∙ from p))
       where
         to : (outsideAt b (rootAt b (u .index)) B ≡ true) ⊎ ((eqb (rootAt b (u .index)) (rootAt b (t .index)) && eqb (B .index) (A .index)) ≡ true) → Then b (Out t A) (Out u B)
@@ -75,7 +75,7 @@ module _ (n : ℕ) (k : List Term) (m : ℕ) (b : Branch) (F : WellFormed n k b)
 
         from : Then b (Out t A) (Out u B) → (outsideAt b (rootAt b (u .index)) B || (eqb (rootAt b (u .index)) (rootAt b (t .index)) && eqb (B .index) (A .index))) ≡ true
         from (inl p) = or-l (eqb (rootAt b (u .index)) (rootAt b (t .index)) && eqb (B .index) (A .index)) p
-        from (inr (o, z)) = or-r (outsideAt b (rootAt b (u .index)) B) (and-i (eq-eqb (rootAt b (u .index)) (rootAt b (t .index)) (sym (heads t u o))) (eqb-set B A (sym z)))
+        from (inr (o, z)) = or-r (outsideAt b (rootAt b (u .index)) B) (and-i (eq-eqb (rootAt b (u .index)) (rootAt b (t .index)) (sym (one-root t u o))) (eqb-set B A (sym z)))
 
     addInside-is : (g : Fact) → (known (addIn b (rootAt b (t .index)) A) g ≡ true) ↔ Then b (In t A) g
     addInside-is (In u B) = addInside-in u B
@@ -92,7 +92,7 @@ module _ (n : ℕ) (k : List Term) (m : ℕ) (b : Branch) (F : WellFormed n k b)
       where
         from : Conflicts b n k (In t A) → assert k b (In t A) ≡ none
         from (inl (u, B, l, inl p, q)) = absurd (not-both u B p q)
-        from (inl (u, B, l, inr (o, z), q)) = let w : known b (Out t A) ≡ true = rw z (out-of u t B (one u t (sym (heads t u o))) q) in rw w
+        from (inl (u, B, l, inr (o, z), q)) = let w : known b (Out t A) ≡ true = rw z (out-of u t B (one u t (sym (one-root t u o))) q) in rw w
         from (inr (i, j, p, q, d, o)) = absurd (alone i j p q d o)
 
     out-none : (assert k b (Out t A) ≡ none) ↔ Conflicts b n k (Out t A)
@@ -100,7 +100,7 @@ module _ (n : ℕ) (k : List Term) (m : ℕ) (b : Branch) (F : WellFormed n k b)
       where
         from : Conflicts b n k (Out t A) → assert k b (Out t A) ≡ none
         from (inl (u, B, l, p, inl q)) = absurd (not-both u B p q)
-        from (inl (u, B, l, p, inr (o, z))) = let w : known b (In t A) ≡ true = rw z (in-of u t B (one u t (sym (heads t u o))) p) in rw w
+        from (inl (u, B, l, p, inr (o, z))) = let w : known b (In t A) ≡ true = rw z (in-of u t B (one u t (sym (one-root t u o))) p) in rw w
         from (inr (i, j, p, q, d, o)) = absurd (alone i j p q d o)
 
   -- merging: s's root is the lower
@@ -115,17 +115,17 @@ module _ (n : ℕ) (k : List Term) (m : ℕ) (b : Branch) (F : WellFormed n k b)
     at-other u e = moves n k m b F (s .index) (t .index) lt low (u .index) ∙ moved-other (rootAt b (s .index)) (rootAt b (t .index)) (rootAt b (u .index)) e
 
     in-at : (h : ℕ) (B : SetVar) → insideAt j h B ≡ (insideAt b h B || (eqb h (rootAt b (s .index)) && insideAt b (rootAt b (t .index)) B))
-    in-at h B = inside-merge b (rootAt b (s .index)) (rootAt b (t .index)) h B (in-ins n k m b F (s .index) ls)
+    in-at h B = inside-merge b (rootAt b (s .index)) (rootAt b (t .index)) h B (root-in-insides n k m b F (s .index) ls)
 
     out-at : (h : ℕ) (B : SetVar) → outsideAt j h B ≡ (outsideAt b h B || (eqb h (rootAt b (s .index)) && outsideAt b (rootAt b (t .index)) B))
-    out-at h B = outside-merge b (rootAt b (s .index)) (rootAt b (t .index)) h B (in-outs n k m b F (s .index) ls)
+    out-at h B = outside-merge b (rootAt b (s .index)) (rootAt b (t .index)) h B (root-in-outsides n k m b F (s .index) ls)
 
     -- for a mask G of b, J of the merged branch
     module _ (G J : ℕ → Bool) (at : (h : ℕ) → J h ≡ (G h || (eqb h (rootAt b (s .index)) && G (rootAt b (t .index))))) where
-      abbrev Joined : Term → Type 0
-      Joined u = (G (rootAt b (u .index)) ≡ true) ⊎ ((OneClass b u s ⊎ OneClass b u t) × ((G (rootAt b (s .index)) ≡ true) ⊎ (G (rootAt b (t .index)) ≡ true)))
+      abbrev Merged : Term → Type 0
+      Merged u = (G (rootAt b (u .index)) ≡ true) ⊎ ((OneClass b u s ⊎ OneClass b u t) × ((G (rootAt b (s .index)) ≡ true) ⊎ (G (rootAt b (t .index)) ≡ true)))
 
-      to : (u : Term) → Dec (rootAt b (u .index) ≡ rootAt b (t .index)) → J (rootAt j (u .index)) ≡ true → Joined u
+      to : (u : Term) → Dec (rootAt b (u .index) ≡ rootAt b (t .index)) → J (rootAt j (u .index)) ≡ true → Merged u
       to u (yes e) p = inr (inr (one u t e), go (or-cases (G (rootAt b (s .index))) (eqb (rootAt b (s .index)) (rootAt b (s .index)) && G (rootAt b (t .index))) (sym (at (rootAt b (s .index))) ∙ (rw (at-hi u e) at p))))
         where
           go : (G (rootAt b (s .index)) ≡ true) ⊎ ((eqb (rootAt b (s .index)) (rootAt b (s .index)) && G (rootAt b (t .index))) ≡ true) → (G (rootAt b (s .index)) ≡ true) ⊎ (G (rootAt b (t .index)) ≡ true)
@@ -133,7 +133,7 @@ module _ (n : ℕ) (k : List Term) (m : ℕ) (b : Branch) (F : WellFormed n k b)
           go (inr q) = inr (and-r (eqb (rootAt b (s .index)) (rootAt b (s .index))) (G (rootAt b (t .index))) q)
       to u (no e) p = go (or-cases (G (rootAt b (u .index))) (eqb (rootAt b (u .index)) (rootAt b (s .index)) && G (rootAt b (t .index))) (sym (at (rootAt b (u .index))) ∙ (rw (at-other u e) at p)))
         where
-          go : (G (rootAt b (u .index)) ≡ true) ⊎ ((eqb (rootAt b (u .index)) (rootAt b (s .index)) && G (rootAt b (t .index))) ≡ true) → Joined u
+          go : (G (rootAt b (u .index)) ≡ true) ⊎ ((eqb (rootAt b (u .index)) (rootAt b (s .index)) && G (rootAt b (t .index))) ≡ true) → Merged u
           go (inl q) = inl q
           go (inr q) = inr (inl (and-l (eqb (rootAt b (u .index)) (rootAt b (s .index))) (G (rootAt b (t .index))) q), inr (and-r (eqb (rootAt b (u .index)) (rootAt b (s .index))) (G (rootAt b (t .index))) q))
 
@@ -141,35 +141,35 @@ module _ (n : ℕ) (k : List Term) (m : ℕ) (b : Branch) (F : WellFormed n k b)
       from-lo h e (inl q) = at h ∙ or-l (eqb h (rootAt b (s .index)) && G (rootAt b (t .index))) (ap G e ∙ q)
       from-lo h e (inr q) = at h ∙ or-r (G h) (and-i (eq-eqb h (rootAt b (s .index)) e) q)
 
-      from : (u : Term) → Dec (rootAt b (u .index) ≡ rootAt b (t .index)) → Joined u → J (rootAt j (u .index)) ≡ true
+      from : (u : Term) → Dec (rootAt b (u .index) ≡ rootAt b (t .index)) → Merged u → J (rootAt j (u .index)) ≡ true
       from u (yes e) (inl p) = from-lo (rootAt j (u .index)) (at-hi u e) (inr (ap G (sym e) ∙ p))
       from u (yes e) (inr (o, q)) = from-lo (rootAt j (u .index)) (at-hi u e) q
       from u (no e) (inl p) = ap J (at-other u e) ∙ at (rootAt b (u .index)) ∙ or-l (eqb (rootAt b (u .index)) (rootAt b (s .index)) && G (rootAt b (t .index))) p
-      from u (no e) (inr (inl o, q)) = from-lo (rootAt j (u .index)) (at-other u e ∙ heads u s o) q
-      from u (no e) (inr (inr o, q)) = absurd (e (heads u t o))
+      from u (no e) (inr (inl o, q)) = from-lo (rootAt j (u .index)) (at-other u e ∙ one-root u s o) q
+      from u (no e) (inr (inr o, q)) = absurd (e (one-root u t o))
 
-    eq-to : (u x : Term) → Dec (rootAt b (u .index) ≡ rootAt b (t .index)) → Dec (rootAt b (x .index) ≡ rootAt b (t .index)) → rootAt j (u .index) ≡ rootAt j (x .index) → Then b (Same s t) (Same u x)
-    eq-to u x (yes e) (yes f) p = inl (one u x (e ∙ sym f))
-    eq-to u x (yes e) (no f) p = inr (inr (one u t e), inl (one x s (sym (at-other x f) ∙ sym p ∙ at-hi u e)))
-    eq-to u x (no e) (yes f) p = inr (inl (one u s (sym (at-other u e) ∙ p ∙ at-hi x f)), inr (one x t f))
-    eq-to u x (no e) (no f) p = inl (one u x (sym (at-other u e) ∙ p ∙ at-other x f))
+    same-to : (u x : Term) → Dec (rootAt b (u .index) ≡ rootAt b (t .index)) → Dec (rootAt b (x .index) ≡ rootAt b (t .index)) → rootAt j (u .index) ≡ rootAt j (x .index) → Then b (Same s t) (Same u x)
+    same-to u x (yes e) (yes f) p = inl (one u x (e ∙ sym f))
+    same-to u x (yes e) (no f) p = inr (inr (one u t e), inl (one x s (sym (at-other x f) ∙ sym p ∙ at-hi u e)))
+    same-to u x (no e) (yes f) p = inr (inl (one u s (sym (at-other u e) ∙ p ∙ at-hi x f)), inr (one x t f))
+    same-to u x (no e) (no f) p = inl (one u x (sym (at-other u e) ∙ p ∙ at-other x f))
 
     -- the root after merging, of a term of either class
     either : (u : Term) → OneClass b u s ⊎ OneClass b u t → rootAt j (u .index) ≡ rootAt b (s .index)
-    either u (inl o) = at-other u (λ e. let z : rootAt b (s .index) ≡ rootAt b (t .index) = sym (heads u s o) ∙ e in omega arith) ∙ heads u s o
-    either u (inr o) = at-hi u (heads u t o)
+    either u (inl o) = at-other u (λ e. let z : rootAt b (s .index) ≡ rootAt b (t .index) = sym (one-root u s o) ∙ e in omega arith) ∙ one-root u s o
+    either u (inr o) = at-hi u (one-root u t o)
 
-    eq-from : (u x : Term) → Dec (rootAt b (u .index) ≡ rootAt b (t .index)) → Then b (Same s t) (Same u x) → rootAt j (u .index) ≡ rootAt j (x .index)
-    eq-from u x (yes e) (inl o) = at-hi u e ∙ sym (at-hi x (sym (heads u x o) ∙ e))
-    eq-from u x (no e) (inl o) = at-other u e ∙ heads u x o ∙ sym (at-other x (λ f. e (heads u x o ∙ f)))
-    eq-from u x d (inr (p, q)) = either u p ∙ sym (either x q)
+    same-from : (u x : Term) → Dec (rootAt b (u .index) ≡ rootAt b (t .index)) → Then b (Same s t) (Same u x) → rootAt j (u .index) ≡ rootAt j (x .index)
+    same-from u x (yes e) (inl o) = at-hi u e ∙ sym (at-hi x (sym (one-root u x o) ∙ e))
+    same-from u x (no e) (inl o) = at-other u e ∙ one-root u x o ∙ sym (at-other x (λ f. e (one-root u x o ∙ f)))
+    same-from u x d (inr (p, q)) = either u p ∙ sym (either x q)
 
     merge-is : (g : Fact) → (known j g ≡ true) ↔ Then b (Same s t) g
     merge-is (In u B) = (to (λ h. insideAt b h B) (λ h. insideAt j h B) (λ h. in-at h B) u (ℕ-discrete (rootAt b (u .index)) (rootAt b (t .index))), from (λ h. insideAt b h B) (λ h. insideAt j h B) (λ h. in-at h B) u (ℕ-discrete (rootAt b (u .index)) (rootAt b (t .index))))
     merge-is (Out u B) = (to (λ h. outsideAt b h B) (λ h. outsideAt j h B) (λ h. out-at h B) u (ℕ-discrete (rootAt b (u .index)) (rootAt b (t .index))), from (λ h. outsideAt b h B) (λ h. outsideAt j h B) (λ h. out-at h B) u (ℕ-discrete (rootAt b (u .index)) (rootAt b (t .index))))
     merge-is (Same u x) = (
-      (λ p. eq-to u x (ℕ-discrete (rootAt b (u .index)) (rootAt b (t .index))) (ℕ-discrete (rootAt b (x .index)) (rootAt b (t .index))) (eqb-true (rootAt j (u .index)) (rootAt j (x .index)) p)),
-      (λ p. eq-eqb (rootAt j (u .index)) (rootAt j (x .index)) (eq-from u x (ℕ-discrete (rootAt b (u .index)) (rootAt b (t .index))) p)),
+      (λ p. same-to u x (ℕ-discrete (rootAt b (u .index)) (rootAt b (t .index))) (ℕ-discrete (rootAt b (x .index)) (rootAt b (t .index))) (eqb-true (rootAt j (u .index)) (rootAt j (x .index)) p)),
+      (λ p. eq-eqb (rootAt j (u .index)) (rootAt j (x .index)) (same-from u x (ℕ-discrete (rootAt b (u .index)) (rootAt b (t .index))) p)),
     )
 
     abbrev both? : Bool
@@ -218,13 +218,13 @@ module _ (n : ℕ) (k : List Term) (m : ℕ) (b : Branch) (F : WellFormed n k b)
         different q (inr (i, i′, p, r, d, inr (x, y))) = classes x y (or-none-l both? (tornAt j (rootAt b (s .index))) q)
           where
             owns-of : (z u : Term) → Some (λ x. x ≡ z) k → OneClass b z u → ownsAt k b (rootAt b (u .index)) ≡ true
-            owns-of z u c o = owning b k (rootAt b (u .index)) (z .index) (some-is k z c) (heads z u o)
+            owns-of z u c o = owning b k (rootAt b (u .index)) (z .index) (some-is k z c) (one-root z u o)
 
             classes : OneClass b i s ⊎ OneClass b i t → OneClass b i′ s ⊎ OneClass b i′ t → both? ≡ false → ⊥
-            classes (inl a) (inl c) nk = alone i i′ p r d (one i i′ (heads i s a ∙ sym (heads i′ s c)))
+            classes (inl a) (inl c) nk = alone i i′ p r d (one i i′ (one-root i s a ∙ sym (one-root i′ s c)))
             classes (inl a) (inr c) nk = false≢true (sym nk ∙ and-i (owns-of i s p a) (owns-of i′ t r c))
             classes (inr a) (inl c) nk = false≢true (sym nk ∙ and-i (owns-of i′ s r c) (owns-of i t p a))
-            classes (inr a) (inr c) nk = alone i i′ p r d (one i i′ (heads i t a ∙ sym (heads i′ t c)))
+            classes (inr a) (inr c) nk = alone i i′ p r d (one i i′ (one-root i t a ∙ sym (one-root i′ t c)))
 
         go : ((both? || tornAt j (rootAt b (s .index))) ≡ true) ⊎ ((both? || tornAt j (rootAt b (s .index))) ≡ false) → mergeRootsAt k b (rootAt b (s .index)) (rootAt b (t .index)) ≡ none
         go (inl q) = rw q
@@ -265,8 +265,8 @@ module _ (n : ℕ) (k : List Term) (m : ℕ) (b : Branch) (F : WellFormed n k b)
       old (Same u x) p = inl p
 
       cls : (u : Term) → OneClass b u s ⊎ OneClass b u t → rootAt b (u .index) ≡ rootAt b (s .index)
-      cls u (inl o) = heads u s o
-      cls u (inr o) = heads u t o ∙ sym e
+      cls u (inl o) = one-root u s o
+      cls u (inr o) = one-root u t o ∙ sym e
 
       same : (g : Fact) → Then b (Same s t) g → known b g ≡ true
       same (In u B) (inl p) = p
@@ -282,13 +282,13 @@ module _ (n : ℕ) (k : List Term) (m : ℕ) (b : Branch) (F : WellFormed n k b)
   idle-good s t e (inl (u, B, l, p, q)) = not-both u B (idle s t e (In u B) .1 p) (idle s t e (Out u B) .1 q)
   idle-good s t e (inr (i, j, p, q, d, o)) = alone i j p q d (idle s t e (Same i j) .1 o)
 
-  eq-spec : (s t : Term) → s .index < n → t .index < n → (o : Option Branch) → Merges k b (s .index) (t .index) o → (o ≡ none ↔ Conflicts b n k (Same s t)) × ((c : Branch) → o ≡ some c → (g : Fact) → (known c g ≡ true) ↔ Then b (Same s t) g)
-  eq-spec s t ls lt o (already e) = (((λ q. let w : false ≡ true = cc in absurd (false≢true w)), (λ c. absurd (idle-good s t e c))), (λ c q g. let z : b ≡ c = cc in subst (λ (x : Branch). (known x g ≡ true) ↔ Then b (Same s t) g) z (idle s t e g)))
-  eq-spec s t ls lt o (upper h) = (
+  same-spec : (s t : Term) → s .index < n → t .index < n → (o : Option Branch) → Merges k b (s .index) (t .index) o → (o ≡ none ↔ Conflicts b n k (Same s t)) × ((c : Branch) → o ≡ some c → (g : Fact) → (known c g ≡ true) ↔ Then b (Same s t) g)
+  same-spec s t ls lt o (already e) = (((λ q. let w : false ≡ true = cc in absurd (false≢true w)), (λ c. absurd (idle-good s t e c))), (λ c q g. let z : b ≡ c = cc in subst (λ (x : Branch). (known x g ≡ true) ↔ Then b (Same s t) g) z (idle s t e g)))
+  same-spec s t ls lt o (upper h) = (
     (mergeRoots-to s t ls lt h, mergeRoots-from s t ls lt h),
     (λ c q g. subst (λ (x : Branch). (known x g ≡ true) ↔ Then b (Same s t) g) (conflictIf-some ((ownsAt k b (rootAt b (s .index)) && ownsAt k b (rootAt b (t .index))) || tornAt (mergeAt b (rootAt b (s .index)) (rootAt b (t .index))) (rootAt b (s .index))) (mergeAt b (rootAt b (s .index)) (rootAt b (t .index))) c q .1) (merge-is s t ls lt h g)),
   )
-  eq-spec s t ls lt o (lower h) = (
+  same-spec s t ls lt o (lower h) = (
     ((λ q. swap-bad s t (mergeRoots-to t s lt ls h q)), (λ c. mergeRoots-from t s lt ls h (swap-bad t s c))),
     (λ c q g. subst (λ (x : Branch). (known x g ≡ true) ↔ Then b (Same s t) g) (conflictIf-some ((ownsAt k b (rootAt b (t .index)) && ownsAt k b (rootAt b (s .index))) || tornAt (mergeAt b (rootAt b (t .index)) (rootAt b (s .index))) (rootAt b (t .index))) (mergeAt b (rootAt b (t .index)) (rootAt b (s .index))) c q .1)
         ((λ p. swap s t g (merge-is t s lt ls h g .0 p)), (λ p. merge-is t s lt ls h g .1 (swap t s g p)))),
@@ -297,9 +297,9 @@ module _ (n : ℕ) (k : List Term) (m : ℕ) (b : Branch) (F : WellFormed n k b)
   assert-spec : (f : Fact) → Ranged n m f → (assert k b f ≡ none ↔ Conflicts b n k f) × ((c : Branch) → assert k b f ≡ some c → (g : Fact) → Ranged n m g → (known c g ≡ true) ↔ Then b f g)
   assert-spec (In t A) l = (in-none t A (l .0), λ c q g _. subst (λ (x : Branch). (known x g ≡ true) ↔ Then b (In t A) g) (conflictIf-some (known b (Out t A)) (addIn b (rootAt b (t .index)) A) c q .1) (addInside-is t A (l .0) g))
   assert-spec (Out t A) l = (out-none t A (l .0), λ c q g _. subst (λ (x : Branch). (known x g ≡ true) ↔ Then b (Out t A) g) (conflictIf-some (known b (In t A)) (addOut b (rootAt b (t .index)) A) c q .1) (addOutside-is t A (l .0) g))
-  assert-spec (Same s t) l = let z = eq-spec s t (l .0) (l .1) (assert k b (Same s t)) (merges k b (s .index) (t .index)) in (z .0, λ c q g _. z .1 c q g)
+  assert-spec (Same s t) l = let z = same-spec s t (l .0) (l .1) (assert k b (Same s t)) (merges k b (s .index) (t .index)) in (z .0, λ c q g _. z .1 c q g)
 
 pub asserts : Asserts
 asserts n k m b r =
     let F = reached-fit n k m b r in
-    ((λ t l. (still n k b F t, λ u o. omega (arith, below n k b F u, heads n k m b F (term t) (term u) o))), assert-spec n k m b F)
+    ((λ t l. (still n k b F t, λ u o. omega (arith, below n k b F u, one-root n k m b F (term t) (term u) o))), assert-spec n k m b F)

@@ -234,27 +234,27 @@ module _ (n : ℕ) (k : List Term) (m : ℕ) (b : Branch) (F : WellFormed n k b)
   pub moves : (t u : ℕ) → u < n → rootAt b t < rootAt b u → (x : ℕ) → rootAt (mergeAt b (rootAt b t) (rootAt b u)) x ≡ moved (rootAt b t) (rootAt b u) (rootAt b x)
   moves t u hu l x = root-merge n k b F (rootAt b t) (rootAt b u) l (root-in u hu) (still n k b F t) (still n k b F u) x
 
-  pub in-ins : (t : ℕ) → t < n → rootAt b t < length (b .insides)
-  in-ins t h = rw (F .sized-in) (root-in t h)
+  pub root-in-insides : (t : ℕ) → t < n → rootAt b t < length (b .insides)
+  root-in-insides t h = rw (F .sized-in) (root-in t h)
 
-  pub in-outs : (t : ℕ) → t < n → rootAt b t < length (b .outsides)
-  in-outs t h = rw (F .sized-out) (root-in t h)
+  pub root-in-outsides : (t : ℕ) → t < n → rootAt b t < length (b .outsides)
+  root-in-outsides t h = rw (F .sized-out) (root-in t h)
 
   -- values that satisfy the branch and the fact satisfy the branch that notes it
   module _ (v : Valuation) (s : Sat v b) where
-    pub eq-keeps : (t u : ℕ) → t < n → u < n → v .num (term t) ≡ v .num (term u) → (o : Option Branch) → Merges k b t u o → (c : Branch) → o ≡ some c → Sat v c
-    eq-keeps t u ht hu e o (already h) c q = let z : b ≡ c = cc in subst (Sat v) z s
-    eq-keeps t u ht hu e o (upper h) c q =
+    pub same-keeps : (t u : ℕ) → t < n → u < n → v .num (term t) ≡ v .num (term u) → (o : Option Branch) → Merges k b t u o → (c : Branch) → o ≡ some c → Sat v c
+    same-keeps t u ht hu e o (already h) c q = let z : b ≡ c = cc in subst (Sat v) z s
+    same-keeps t u ht hu e o (upper h) c q =
         subst (Sat v) (conflictIf-some ((ownsAt k b (rootAt b t) && ownsAt k b (rootAt b u)) || tornAt (mergeAt b (rootAt b t) (rootAt b u)) (rootAt b t)) (mergeAt b (rootAt b t) (rootAt b u)) c q .1)
-        (merge-sat v b s t u e (moves t u hu h) (in-ins t ht) (in-outs t ht))
-    eq-keeps t u ht hu e o (lower h) c q =
+        (merge-sat v b s t u e (moves t u hu h) (root-in-insides t ht) (root-in-outsides t ht))
+    same-keeps t u ht hu e o (lower h) c q =
         subst (Sat v) (conflictIf-some ((ownsAt k b (rootAt b u) && ownsAt k b (rootAt b t)) || tornAt (mergeAt b (rootAt b u) (rootAt b t)) (rootAt b u)) (mergeAt b (rootAt b u) (rootAt b t)) c q .1)
-        (merge-sat v b s u t (sym e) (moves u t ht h) (in-ins u hu) (in-outs u hu))
+        (merge-sat v b s u t (sym e) (moves u t ht h) (root-in-insides u hu) (root-in-outsides u hu))
 
     pub assert-keeps : (f : Fact) → Ranged n m f → truth v f ≡ true → (c : Branch) → assert k b f ≡ some c → Sat v c
-    assert-keeps (In t A) r e c q = subst (Sat v) (conflictIf-some (known b (Out t A)) (addIn b (rootAt b (t .index)) A) c q .1) (addInside-sat v b s (t .index) A (in-ins (t .index) (r .0)) e)
-    assert-keeps (Out t A) r e c q = subst (Sat v) (conflictIf-some (known b (In t A)) (addOut b (rootAt b (t .index)) A) c q .1) (addOutside-sat v b s (t .index) A (in-outs (t .index) (r .0)) e)
-    assert-keeps (Same t u) r e c q = eq-keeps (t .index) (u .index) (r .0) (r .1) (eqZ-eq (v .num t) (v .num u) e) (assert k b (Same t u)) (merges k b (t .index) (u .index)) c q
+    assert-keeps (In t A) r e c q = subst (Sat v) (conflictIf-some (known b (Out t A)) (addIn b (rootAt b (t .index)) A) c q .1) (addInside-sat v b s (t .index) A (root-in-insides (t .index) (r .0)) e)
+    assert-keeps (Out t A) r e c q = subst (Sat v) (conflictIf-some (known b (In t A)) (addOut b (rootAt b (t .index)) A) c q .1) (addOutside-sat v b s (t .index) A (root-in-outsides (t .index) (r .0)) e)
+    assert-keeps (Same t u) r e c q = same-keeps (t .index) (u .index) (r .0) (r .1) (eqZ-eq (v .num t) (v .num u) e) (assert k b (Same t u)) (merges k b (t .index) (u .index)) c q
 
     -- and where asserting it conflicts there are none
     module _ (d : Distinct k v) where
@@ -265,7 +265,7 @@ module _ (n : ℕ) (k : List Term) (m : ℕ) (b : Branch) (F : WellFormed n k b)
           j = mergeAt b (rootAt b t) (rootAt b u)
 
           sj : Sat v j
-          sj = merge-sat v b s t u e (moves t u hu l) (in-ins t ht) (in-outs t ht)
+          sj = merge-sat v b s t u e (moves t u hu l) (root-in-insides t ht) (root-in-outsides t ht)
 
           hj : rootAt j t ≡ rootAt b t
           hj = moves t u hu l t ∙ moved-other (rootAt b t) (rootAt b u) (rootAt b t) (omega arith)
@@ -283,12 +283,12 @@ module _ (n : ℕ) (k : List Term) (m : ℕ) (b : Branch) (F : WellFormed n k b)
               let non : truth v (Out (term t) (w .0)) ≡ true = sj (Out (term t) (w .0)) (ap (λ (h : ℕ). outsideAt j h (w .0)) hj ∙ w .2) in
               clash yes (not-t (truth v (In (term t) (w .0))) non)
 
-      pub eq-stops : (t u : ℕ) → t < n → u < n → v .num (term t) ≡ v .num (term u) → (o : Option Branch) → Merges k b t u o → o ≡ none → ⊥
-      eq-stops t u ht hu e o (already h) q = let w : false ≡ true = cc in false≢true w
-      eq-stops t u ht hu e o (upper h) q = mergeRoots-stops t u ht hu e h q
-      eq-stops t u ht hu e o (lower h) q = mergeRoots-stops u t hu ht (sym e) h q
+      pub same-stops : (t u : ℕ) → t < n → u < n → v .num (term t) ≡ v .num (term u) → (o : Option Branch) → Merges k b t u o → o ≡ none → ⊥
+      same-stops t u ht hu e o (already h) q = let w : false ≡ true = cc in false≢true w
+      same-stops t u ht hu e o (upper h) q = mergeRoots-stops t u ht hu e h q
+      same-stops t u ht hu e o (lower h) q = mergeRoots-stops u t hu ht (sym e) h q
 
       pub assert-stops : (f : Fact) → Ranged n m f → truth v f ≡ true → assert k b f ≡ none → ⊥
       assert-stops (In t A) r e q = clash e (not-t (truth v (In t A)) (s (Out t A) (conflictIf-none (known b (Out t A)) (addIn b (rootAt b (t .index)) A) q)))
       assert-stops (Out t A) r e q = clash (s (In t A) (conflictIf-none (known b (In t A)) (addOut b (rootAt b (t .index)) A) q)) (not-t (truth v (In t A)) e)
-      assert-stops (Same t u) r e q = eq-stops (t .index) (u .index) (r .0) (r .1) (eqZ-eq (v .num t) (v .num u) e) (assert k b (Same t u)) (merges k b (t .index) (u .index)) q
+      assert-stops (Same t u) r e q = same-stops (t .index) (u .index) (r .0) (r .1) (eqZ-eq (v .num t) (v .num u) e) (assert k b (Same t u)) (merges k b (t .index) (u .index)) q

@@ -20,7 +20,7 @@ use Rattle.calculus.specs.Demands.{Checks}
 use Rattle.calculus.proofs.Truth.{Reflects, is, isnt, yes-of}
 use Rattle.calculus.proofs.CheckLaws.{holds-is}
 use Rattle.calculus.proofs.ConstraintLaws.{InScope, own}
-use Rattle.calculus.proofs.Words.{each-at}
+use Rattle.calculus.proofs.Sequences.{each-at}
 use Rattle.calculus.proofs.ReadValid.{read-valid}
 
 no-of : {P : Type 0} {a : Bool} → Reflects P a → a ≡ false → ¬ P

@@ -1,4 +1,4 @@
--- An accepted problem's constraints: in range; their meanings with and without witnesses.
+-- A valid problem's constraints: in range; their meanings with and without witnesses.
 use mathlib.Core.Path.{_≡_, refl, sym, _∙_, ap, ap₂, subst}
 use mathlib.Core.Logic.{_⊎_, inl, inr, _↔_, _≢_}
 use mathlib.Core.Bool.{Bool, true, false, _&&_, _||_, not, cond, true≢false, false≢true}
@@ -21,56 +21,8 @@ use Rattle.calculus.proofs.Bools.{and-l, and-r, and-i, or-cases, clash,
 use Rattle.calculus.proofs.Tables.{relation-none}
 use Rattle.calculus.proofs.Truth.{has, has-in, in-has, relates-test, test-relates, Is, Distinct}
 use Rattle.calculus.proofs.RuleLaws.{ConstraintIn, Lists, Good}
-use Rattle.calculus.proofs.Stepping.{terms-each, terms-at}
-
--- ---- order
-
-pub lt-le : {a b : ℤ} → a <ℤ b → a ≤ℤ b
-lt-le {a} {b} h = record { le = go a b (h .lt) }
-  where
-    go : (a b : ℤ) → T (ltZ a b) → T (leZ a b)
-    go (pos m) (pos n) t = le→leb m n (omega (arith, ltb→lt m n t))
-    go (pos m) (negsuc n) t = t
-    go (negsuc m) (pos n) t = tt
-    go (negsuc m) (negsuc n) t = le→leb n m (omega (arith, ltb→lt n m t))
-
-module _ (cs : List ℤ) (up : Rising cs) where
-  pub rising-le : (p q : ℕ) → p ≤ q → q < length cs → getD cs p (pos 0) ≤ℤ getD cs q (pos 0)
-  rising-le p q l h = go (ℕ-discrete p q)
-    where
-      go : Dec (p ≡ q) → getD cs p (pos 0) ≤ℤ getD cs q (pos 0)
-      go (yes e) = rw e (≤ℤ-refl (getD cs q (pos 0)))
-      go (no e) = lt-le (up p q (omega arith) h)
-
-  -- the order of values is the order of places
-  pub le-rising : (p q : ℕ) → p < length cs → getD cs p (pos 0) ≤ℤ getD cs q (pos 0) → p ≤ q
-  le-rising p q l h = go (decLe p q)
-    where
-      go : Dec (p ≤ q) → p ≤ q
-      go (yes e) = e
-      go (no e) = clashℤ (up q p (omega arith) l) h
-
-  pub rising-inj : (p q : ℕ) → p < length cs → q < length cs → getD cs p (pos 0) ≡ getD cs q (pos 0) → p ≡ q
-  rising-inj p q lp lq e =
-      let a : p ≤ q = le-rising p q lp (rw e (≤ℤ-refl (getD cs q (pos 0)))) in
-      let b : q ≤ p = le-rising q p lq (rw e (≤ℤ-refl (getD cs q (pos 0)))) in
-      omega arith
-
--- a member of a list stands at a place
-place-of : (cs : List ℤ) (x : ℤ) → x ∈ cs → (p : ℕ) × (p < length cs) × (x ≡ getD cs p (pos 0))
-place-of [] x m = absurd m
-place-of (c ∷ cs) x (inl e) = (zero, suc-le-suc zero-le, e)
-place-of (c ∷ cs) x (inr m) = let r = place-of cs x m in (suc (r .0), suc-le-suc (r .1), r .2)
-
--- the image of a number of the list
-image-of : (f : Term → ℤ) (es : List Term) → Each (λ e. f e ∈ map f es) es
-image-of f [] = tt
-image-of f (e ∷ es) = (inl refl, Each-imp (λ j. f j ∈ map f es) (λ j. f j ∈ map f (e ∷ es)) es (λ j q. inr q) (image-of f es))
-
-from-image : (P : Term → Type 0) (f : Term → ℤ) (l : List Term) (x : ℤ) → Each P l → x ∈ map f l → (h : Term) × P h × (x ≡ f h)
-from-image P f [] x e m = absurd m
-from-image P f (h ∷ hs) x e (inl q) = (h, e .0, q)
-from-image P f (h ∷ hs) x e (inr q) = from-image P f hs x (e .1) q
+use Rattle.calculus.proofs.Sequences.{terms-each, terms-at, place-of, from-image, image-of}
+use Rattle.calculus.proofs.Integers.{rising-le, le-rising, rising-inj}
 
 pub images-in : (f : Term → ℤ) (l : List ℤ) (es : List Term) → all (λ e. has l (f e)) es ≡ true → (x : ℤ) → x ∈ map f es → x ∈ l
 images-in f l [] q x m = absurd m

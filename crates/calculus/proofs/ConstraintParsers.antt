@@ -208,44 +208,44 @@ module _ (cs : List ℤ) (N S : ℕ) (up : Rising cs) (known : length cs ≤ N) 
   -- ---- a constraint
 
   -- l as it is written
-  abbrev pub Line : Form
-  Line l u = (u ≡ encodeConstraint l) × Refers cs N S l × Tied w l
+  abbrev pub WrittenConstraint : Form
+  WrittenConstraint l u = (u ≡ encodeConstraint l) × Refers cs N S l × Tied w l
 
-  pub constraint-reads : Recognizes pair Line (constraint cs N S w)
-  constraint-reads = same-writing Line to from (and-then _ byte-reads (λ k. kind-at k .0))
+  pub constraint-reads : Recognizes pair WrittenConstraint (constraint cs N S w)
+  constraint-reads = same-writing WrittenConstraint to from (and-then _ byte-reads (λ k. kind-at k .0))
     where
-      to : (l : Constraint) (u : List ℕ) → Then OneByte (λ k. getD forms k Never) l u → Line l u
+      to : (l : Constraint) (u : List ℕ) → Then OneByte (λ k. getD forms k Never) l u → WrittenConstraint l u
       to l u (then {v = v} (one {b = k}) f) = let r = kind-at k .1 l v f in (sym (r .0), r .1, r .2)
 
-      from : (l : Constraint) (u : List ℕ) → Line l u → Then OneByte (λ k. getD forms k Never) l u
+      from : (l : Constraint) (u : List ℕ) → WrittenConstraint l u → Then OneByte (λ k. getD forms k Never) l u
       from l u h = let r = formed l (h .1) (h .2) in subst (λ (z : List ℕ). Then OneByte (λ k. getD forms k Never) l z) (sym (h .0 ∙ r .2)) (then (one {b = r .0}) (r .3))
 
 -- ---- constraints, one by one
 
 module _ (cs : List ℤ) (N S : ℕ) where
   -- n constraints as they are written, with witnesses from w up
-  abbrev pub Lines : ℕ → ℕ → List Constraint × ℕ → List ℕ → Type 0
-  Lines w n a u = (length (a .0) ≡ n) × (u ≡ gather encodeConstraint (a .0)) × Each (Refers cs N S) (a .0) × Numbered w (a .1) (a .0)
+  abbrev pub WrittenConstraints : ℕ → ℕ → List Constraint × ℕ → List ℕ → Type 0
+  WrittenConstraints w n a u = (length (a .0) ≡ n) × (u ≡ gather encodeConstraint (a .0)) × Each (Refers cs N S) (a .0) × Numbered w (a .1) (a .0)
 
   module _ (up : Rising cs) (known : length cs ≤ N) where
-    pub constraints-read : (n w : ℕ) → Recognizes (λ (a : List Constraint × ℕ) r. parsed (a .0, a .1, r)) (Lines w n) (constraints cs N S w n)
-    constraints-read zero w = same-writing (Lines w 0) to (λ a u h. from (a .0) (a .1) u h) (gives ([], w))
+    pub constraints-read : (n w : ℕ) → Recognizes (λ (a : List Constraint × ℕ) r. parsed (a .0, a .1, r)) (WrittenConstraints w n) (constraints cs N S w n)
+    constraints-read zero w = same-writing (WrittenConstraints w 0) to (λ a u h. from (a .0) (a .1) u h) (gives ([], w))
       where
-        to : (a : List Constraint × ℕ) (u : List ℕ) → Given {A = List Constraint × ℕ} ([], w) a u → Lines w 0 a u
+        to : (a : List Constraint × ℕ) (u : List ℕ) → Given {A = List Constraint × ℕ} ([], w) a u → WrittenConstraints w 0 a u
         to a u given = (refl, refl, tt, refl)
 
-        from : (ls : List Constraint) (w′ : ℕ) (u : List ℕ) → Lines w 0 (ls, w′) u → Given {A = List Constraint × ℕ} ([], w) (ls, w′) u
+        from : (ls : List Constraint) (w′ : ℕ) (u : List ℕ) → WrittenConstraints w 0 (ls, w′) u → Given {A = List Constraint × ℕ} ([], w) (ls, w′) u
         from [] w′ u h = rw (h .1, ← h .3) given
         from (l ∷ ls) w′ u h = absurd (omega (arith, h .0))
-    constraints-read (suc n) w = same-writing (Lines w (suc n)) to (λ a u h. from (a .0) (a .1) u h) (and-then _ (constraint-reads cs N S up known w) (λ l. and-then _ (constraints-read n (w + uses l)) (λ a. gives (l ∷ a .0, a .1))))
+    constraints-read (suc n) w = same-writing (WrittenConstraints w (suc n)) to (λ a u h. from (a .0) (a .1) u h) (and-then _ (constraint-reads cs N S up known w) (λ l. and-then _ (constraints-read n (w + uses l)) (λ a. gives (l ∷ a .0, a .1))))
       where
         Sum : List Constraint × ℕ → List ℕ → Type 0
-        Sum = Then (Line cs N S up known w) (λ l. Then (Lines (w + uses l) n) (λ a. Given {A = List Constraint × ℕ} (l ∷ a .0, a .1)))
+        Sum = Then (WrittenConstraint cs N S up known w) (λ l. Then (WrittenConstraints (w + uses l) n) (λ a. Given {A = List Constraint × ℕ} (l ∷ a .0, a .1)))
 
-        to : (a : List Constraint × ℕ) (u : List ℕ) → Sum a u → Lines w (suc n) a u
+        to : (a : List Constraint × ℕ) (u : List ℕ) → Sum a u → WrittenConstraints w (suc n) a u
         to a u (then {a = l} {u = x} h (then {a = b} {u = y} g given)) = (ap suc (g .0), rw (h .0, append-nil y, g .1), (h .1, g .2), (h .2, g .3))
 
-        from : (ls : List Constraint) (w′ : ℕ) (u : List ℕ) → Lines w (suc n) (ls, w′) u → Sum (ls, w′) u
+        from : (ls : List Constraint) (w′ : ℕ) (u : List ℕ) → WrittenConstraints w (suc n) (ls, w′) u → Sum (ls, w′) u
         from [] w′ u h = absurd (omega (arith, h .0))
         from (l ∷ ls) w′ u h = rw (h .1, ← append-nil (gather encodeConstraint ls))
             (then {a = l} (refl, h .2 .0, h .3 .0) (then {a = (ls, w′)} {u = gather encodeConstraint ls} (omega (arith, h .0), refl, h .2 .1, h .3 .1) given))

@@ -20,7 +20,7 @@ use Rattle.calculus.proofs.Bools.{and-l, and-r, and-i, or-cases, or-non
 use Rattle.calculus.proofs.Masks.{bit-zero}
 use Rattle.calculus.proofs.Truth.{Is}
 use Rattle.calculus.proofs.Walk.{moved, moved-hi, moved-other, set-falls}
-use Rattle.calculus.proofs.Asserting.{owning, WellFormed, Ranged, Merges, already, upper, lower, merges, inside-addInside, outside-addInside, root-addInside, inside-addOutside, outside-addOutside, root-addOutside, inside-merge, outside-merge, below, still, root, root-merge, torn-none, conflictIf-some, root-in, in-ins, in-outs}
+use Rattle.calculus.proofs.Asserting.{owning, WellFormed, Ranged, Merges, already, upper, lower, merges, inside-addInside, outside-addInside, root-addInside, inside-addOutside, outside-addOutside, root-addOutside, inside-merge, outside-merge, below, still, root, root-merge, torn-none, conflictIf-some, root-in, root-in-insides, root-in-outsides}
 
 -- one more bit on one side, where the other side has it not
 one-more : (i o p : Bool) → (i && o) ≡ false → (p ≡ true → o ≡ false) → ((i || p) && o) ≡ false
@@ -110,10 +110,10 @@ module _ (n : ℕ) (k : List Term) (b : Branch) (F : WellFormed n k b) where
       (merge-fit (rootAt b t) (rootAt b u) l (omega (arith, below n k b F u)) (or-none-l (ownsAt k b (rootAt b t) && ownsAt k b (rootAt b u)) (tornAt (mergeAt b (rootAt b t) (rootAt b u)) (rootAt b t)) (w .0)) (still n k b F t) (still n k b F u)
       (or-none-r (ownsAt k b (rootAt b t) && ownsAt k b (rootAt b u)) (tornAt (mergeAt b (rootAt b t) (rootAt b u)) (rootAt b t)) (w .0)))
 
-  eq-fit : (t u : ℕ) → t < n → u < n → (o : Option Branch) → Merges k b t u o → (c : Branch) → o ≡ some c → WellFormed n k c
-  eq-fit t u ht hu o (already h) c q = let z : b ≡ c = cc in subst (WellFormed n k) z F
-  eq-fit t u ht hu o (upper h) c q = mergeRoots-fit t u ht hu h c q
-  eq-fit t u ht hu o (lower h) c q = mergeRoots-fit u t hu ht h c q
+  same-fit : (t u : ℕ) → t < n → u < n → (o : Option Branch) → Merges k b t u o → (c : Branch) → o ≡ some c → WellFormed n k c
+  same-fit t u ht hu o (already h) c q = let z : b ≡ c = cc in subst (WellFormed n k) z F
+  same-fit t u ht hu o (upper h) c q = mergeRoots-fit t u ht hu h c q
+  same-fit t u ht hu o (lower h) c q = mergeRoots-fit u t hu ht h c q
 
   pub assert-fit : (m : ℕ) (f : Fact) → Ranged n m f → (c : Branch) → assert k b f ≡ some c → WellFormed n k c
   assert-fit m (In t A) r c q =
@@ -122,4 +122,4 @@ module _ (n : ℕ) (k : List Term) (b : Branch) (F : WellFormed n k b) where
   assert-fit m (Out t A) r c q =
       let w = conflictIf-some (known b (In t A)) (addOut b (rootAt b (t .index)) A) c q in
       subst (WellFormed n k) (w .1) (addOutside-fit (rootAt b (t .index)) A (omega (arith, below n k b F (t .index))) (w .0))
-  assert-fit m (Same t u) r c q = eq-fit (t .index) (u .index) (r .0) (r .1) (assert k b (Same t u)) (merges k b (t .index) (u .index)) c q
+  assert-fit m (Same t u) r c q = same-fit (t .index) (u .index) (r .0) (r .1) (assert k b (Same t u)) (merges k b (t .index) (u .index)) c q

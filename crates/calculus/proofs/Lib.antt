@@ -1,5 +1,7 @@
 pub mod Bools
 pub mod Membership
+pub mod Sequences
+pub mod Integers
 pub mod AtNumber
 pub mod Tables
 pub mod Masks
@@ -44,3 +46,4 @@ pub mod Sizes
 pub mod StepBounds
 pub mod ByteLaws
 pub mod AnswerLaws
+pub mod Examples

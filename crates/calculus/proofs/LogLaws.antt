@@ -1,4 +1,4 @@
--- The tree: values that satisfy its root satisfy a form; every form is saturated; no path is longer than the measure.
+-- The search as a tree: values that satisfy its root branch satisfy a solved form; every form is saturated.
 use mathlib.Core.Path.{_≡_, refl, sym, _∙_, ap, ap₂, subst, fun-ext}
 use mathlib.Core.Logic.{_⊎_, inl, inr, _↔_, _≢_}
 use mathlib.Core.Bool.{Bool, true, false, _&&_, _||_, not, cond, true≢false, false≢true}

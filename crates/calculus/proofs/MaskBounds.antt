@@ -48,15 +48,15 @@ module _ (m : ℕ) (b : Branch) (s : Small m b) where
     outsides = below-set m (b .outsides) lo (bitOr (getD (b .outsides) lo 0) (getD (b .outsides) hi 0)) (s .outsides) (or-lt m (getD (b .outsides) lo 0) (getD (b .outsides) hi 0) (s .outsides lo) (s .outsides hi));
   }
 
-  eq-small : (k : List Term) (t u : ℕ) (o : Option Branch) → Merges k b t u o → (c : Branch) → o ≡ some c → Small m c
-  eq-small k t u o (already h) c q = let z : b ≡ c = cc in subst (Small m) z s
-  eq-small k t u o (upper h) c q = subst (Small m) (conflictIf-some ((ownsAt k b (rootAt b t) && ownsAt k b (rootAt b u)) || tornAt (mergeAt b (rootAt b t) (rootAt b u)) (rootAt b t)) (mergeAt b (rootAt b t) (rootAt b u)) c q .1) (merge-small (rootAt b t) (rootAt b u))
-  eq-small k t u o (lower h) c q = subst (Small m) (conflictIf-some ((ownsAt k b (rootAt b u) && ownsAt k b (rootAt b t)) || tornAt (mergeAt b (rootAt b u) (rootAt b t)) (rootAt b u)) (mergeAt b (rootAt b u) (rootAt b t)) c q .1) (merge-small (rootAt b u) (rootAt b t))
+  same-small : (k : List Term) (t u : ℕ) (o : Option Branch) → Merges k b t u o → (c : Branch) → o ≡ some c → Small m c
+  same-small k t u o (already h) c q = let z : b ≡ c = cc in subst (Small m) z s
+  same-small k t u o (upper h) c q = subst (Small m) (conflictIf-some ((ownsAt k b (rootAt b t) && ownsAt k b (rootAt b u)) || tornAt (mergeAt b (rootAt b t) (rootAt b u)) (rootAt b t)) (mergeAt b (rootAt b t) (rootAt b u)) c q .1) (merge-small (rootAt b t) (rootAt b u))
+  same-small k t u o (lower h) c q = subst (Small m) (conflictIf-some ((ownsAt k b (rootAt b u) && ownsAt k b (rootAt b t)) || tornAt (mergeAt b (rootAt b u) (rootAt b t)) (rootAt b u)) (mergeAt b (rootAt b u) (rootAt b t)) c q .1) (merge-small (rootAt b u) (rootAt b t))
 
   pub assert-small : (n : ℕ) (k : List Term) (f : Fact) → Ranged n m f → (c : Branch) → assert k b f ≡ some c → Small m c
   assert-small n k (In t A) r c q = subst (Small m) (conflictIf-some (known b (Out t A)) (addIn b (rootAt b (t .index)) A) c q .1) (addInside-small (rootAt b (t .index)) A (r .1))
   assert-small n k (Out t A) r c q = subst (Small m) (conflictIf-some (known b (In t A)) (addOut b (rootAt b (t .index)) A) c q .1) (addOutside-small (rootAt b (t .index)) A (r .1))
-  assert-small n k (Same t u) r c q = eq-small k (t .index) (u .index) (assert k b (Same t u)) (merges k b (t .index) (u .index)) c q
+  assert-small n k (Same t u) r c q = same-small k (t .index) (u .index) (assert k b (Same t u)) (merges k b (t .index) (u .index)) c q
 
 pub start-small : (n m : ℕ) → Small m (start n)
 unfolding start

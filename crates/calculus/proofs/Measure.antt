@@ -18,7 +18,7 @@ pub use Rattle.calculus.specs.Invariants.{sumBelow, undecided, weight, m
 use Rattle.calculus.specs.Branch.{Branch, rootAt, inside, outside, Fact, In, Out, Same, known, addInside, addOutside, merge, torn, owns, conflictIf, mergeRoots, assert, assertAll}
 use Rattle.calculus.proofs.Bools.{and-l, and-r, and-i, or-cases, or-l, or-r, or-none-l, or-none-r, clash, test, all-cong}
 use Rattle.calculus.proofs.Walk.{moved, moved-hi, moved-other}
-use Rattle.calculus.proofs.Asserting.{WellFormed, Ranged, Merges, already, upper, lower, merges, inside-addInside, outside-addInside, root-addInside, inside-addOutside, outside-addOutside, root-addOutside, inside-merge, outside-merge, below, still, root-merge, conflictIf-some, root-in, in-ins, in-outs}
+use Rattle.calculus.proofs.Asserting.{WellFormed, Ranged, Merges, already, upper, lower, merges, inside-addInside, outside-addInside, root-addInside, inside-addOutside, outside-addOutside, root-addOutside, inside-merge, outside-merge, below, still, root-merge, conflictIf-some, root-in, root-in-insides, root-in-outsides}
 use Rattle.calculus.proofs.Keeping.{assert-fit}
 
 pub sum-le : (n : ℕ) (f g : ℕ → ℕ) → ((t : ℕ) → t < n → f t ≤ g t) → sumBelow n f ≤ sumBelow n g
@@ -146,14 +146,14 @@ module _ (n : ℕ) (k : List Term) (m : ℕ) (b : Branch) (F : WellFormed n k b)
   or-absorb false false f = refl
 
   addInside-same : (t : ℕ) (A : SetVar) → t < n → known b (In (term t) A) ≡ true → (g : Fact) → known (addIn b (rootAt b t) A) g ≡ known b g
-  addInside-same t A l e (In u B) = rw (root-addInside b (rootAt b t) A (u .index), inside-addInside b (rootAt b t) A (rootAt b (u .index)) B (in-ins n k m b F t l))
+  addInside-same t A l e (In u B) = rw (root-addInside b (rootAt b t) A (u .index), inside-addInside b (rootAt b t) A (rootAt b (u .index)) B (root-in-insides n k m b F t l))
       (or-absorb (insideAt b (rootAt b (u .index)) B) (eqb (rootAt b (u .index)) (rootAt b t) && eqb (B .index) (A .index))
       (λ p. rw (eqb-true (rootAt b (u .index)) (rootAt b t) (and-l (eqb (rootAt b (u .index)) (rootAt b t)) (eqb (B .index) (A .index)) p), set-eqb B A (and-r (eqb (rootAt b (u .index)) (rootAt b t)) (eqb (B .index) (A .index)) p)) e))
   addInside-same t A l e (Out u B) = rw (root-addInside b (rootAt b t) A (u .index), outside-addInside b (rootAt b t) A (rootAt b (u .index)) B)
   addInside-same t A l e (Same x y) = rw (root-addInside b (rootAt b t) A (x .index), root-addInside b (rootAt b t) A (y .index))
 
   addOutside-same : (t : ℕ) (A : SetVar) → t < n → known b (Out (term t) A) ≡ true → (g : Fact) → known (addOut b (rootAt b t) A) g ≡ known b g
-  addOutside-same t A l e (Out u B) = rw (root-addOutside b (rootAt b t) A (u .index), outside-addOutside b (rootAt b t) A (rootAt b (u .index)) B (in-outs n k m b F t l))
+  addOutside-same t A l e (Out u B) = rw (root-addOutside b (rootAt b t) A (u .index), outside-addOutside b (rootAt b t) A (rootAt b (u .index)) B (root-in-outsides n k m b F t l))
       (or-absorb (outsideAt b (rootAt b (u .index)) B) (eqb (rootAt b (u .index)) (rootAt b t) && eqb (B .index) (A .index))
       (λ p. rw (eqb-true (rootAt b (u .index)) (rootAt b t) (and-l (eqb (rootAt b (u .index)) (rootAt b t)) (eqb (B .index) (A .index)) p), set-eqb B A (and-r (eqb (rootAt b (u .index)) (rootAt b t)) (eqb (B .index) (A .index)) p)) e))
   addOutside-same t A l e (In u B) = rw (root-addOutside b (rootAt b t) A (u .index), inside-addOutside b (rootAt b t) A (rootAt b (u .index)) B)

@@ -20,19 +20,9 @@ use Rattle.calculus.proofs.Bools.{and-l, and-r, and-i, or-cases, or-non
 use Rattle.calculus.proofs.Tables.{litKnown, rows, rows-full, negation-full, relation-none}
 use Rattle.calculus.proofs.Truth.{eqZ, eq-eqZ, has, has-in, in-has, test-relates, truth, Sat}
 use Rattle.calculus.proofs.Asserting.{WellFormed, below, still}
-use Rattle.calculus.proofs.RuleLaws.{applies-steer, known-says, ConstraintIn, Lists, Good}
-use Rattle.calculus.proofs.Stepping.{IsRoot, roots-each, roots-at, keep-each, keep-at}
-
--- a member of the image comes from an element
-image : (P : Term → Type 0) (f : Term → ℤ) (l : List Term) (x : ℤ) → Each P l → x ∈ map f l → (h : Term) × P h × (x ≡ f h)
-image P f [] x e m = absurd m
-image P f (h ∷ hs) x e (inl q) = (h, e .0, q)
-image P f (h ∷ hs) x e (inr q) = image P f hs x (e .1) q
-
--- each element has its image
-images : (f : Term → ℤ) (l : List Term) → Each (λ h. f h ∈ map f l) l
-images f [] = tt
-images f (h ∷ hs) = (inl refl, Each-imp (λ j. f j ∈ map f hs) (λ j. f j ∈ map f (h ∷ hs)) hs (λ j q. inr q) (images f hs))
+use Rattle.calculus.proofs.RuleLaws.{applies-map, known-fact, ConstraintIn, Lists, Good}
+use Rattle.calculus.proofs.Stepping.{IsRoot, roots-each, roots-at}
+use Rattle.calculus.proofs.Sequences.{keep-each, keep-at, from-image, image-of}
 
 module _ (val : Term → ℤ) where
   -- a value for each root; a set holds the values of the classes known to be in it
@@ -48,12 +38,12 @@ module _ (val : Term → ℤ) where
 
     -- a member is the value of a root that is in the set
     from-member : (A : SetVar) (x : ℤ) → x ∈ w .members A → (h : Term) × (IsRoot n b h × (inside b h A ≡ true)) × (x ≡ val h)
-    from-member A x m = image (λ h. IsRoot n b h × (inside b h A ≡ true)) val (keep (λ h. inside b h A) (rootsOf n b)) x (keep-each (IsRoot n b) (λ h. inside b h A) (rootsOf n b) (roots-each n b)) m
+    from-member A x m = from-image (λ h. IsRoot n b h × (inside b h A ≡ true)) val (keep (λ h. inside b h A) (rootsOf n b)) x (keep-each (IsRoot n b) (λ h. inside b h A) (rootsOf n b) (roots-each n b)) m
 
     to-member : (A : SetVar) (h : Term) → IsRoot n b h → inside b h A ≡ true → val h ∈ w .members A
     to-member A h i e =
         roots-at n b (λ h. inside b h A ≡ true → val h ∈ w .members A)
-        (keep-at (λ h. val h ∈ w .members A) (λ h. inside b h A) (rootsOf n b) (images val (keep (λ h. inside b h A) (rootsOf n b)))) h i e
+        (keep-at (λ h. val h ∈ w .members A) (λ h. inside b h A) (rootsOf n b) (image-of val (keep (λ h. inside b h A) (rootsOf n b)))) h i e
 
     has-root : (A : SetVar) (h : Term) → IsRoot n b h → has (w .members A) (val h) ≡ inside b h A
     has-root A h i = same-test (has (w .members A) (val h)) (inside b h A)
@@ -85,15 +75,15 @@ module _ (val : Term → ℤ) where
     Idle mv = applies (known b) mv ≡ false
 
     -- a propagation rule that needs nothing: its conclusion is known
-    propagations-known : (rule : ℕ) (f : Fact) → Idle (propagation rule [] f) → known b f ≡ true
-    propagations-known rule f = go (known b f)
+    propagation-known : (rule : ℕ) (f : Fact) → Idle (propagation rule [] f) → known b f ≡ true
+    propagation-known rule f = go (known b f)
       where
         go : (x : Bool) → (true && not ((x && true) || false)) ≡ false → x ≡ true
         go true e = refl
         go false e = sym e
 
     at-idle : (h : Term) (s : Operand → SetVar) (r : Rule Literal) → Idle (at h s r) → applies (litKnown (λ p. known b (In h (s p))) (λ p. known b (Out h (s p)))) r ≡ false
-    at-idle h s r e = ap (λ (q : Literal → Bool). applies q r) (sym (known-says b h s)) ∙ sym (applies-steer (factOf h s) (known b) r) ∙ e
+    at-idle h s r e = ap (λ (q : Literal → Bool). applies q r) (sym (known-fact b h s)) ∙ sym (applies-map (factOf h s) (known b) r) ∙ e
 
     over-idle : (s : Operand → SetVar) (rs : List (Rule Literal)) → Each (λ (p : Term × Move). Idle (p .1)) (over (rootsOf n b) s rs) → (h : Term) → IsRoot n b h
         → Each (λ r. not (applies (litKnown (λ p. known b (In h (s p))) (λ p. known b (Out h (s p)))) r) ≡ true) rs
@@ -148,7 +138,7 @@ module _ (val : Term → ℤ) where
 
     entries-in : (A : SetVar) (es : List Term) → Each (λ e. e .index < n) es → Each (λ (p : Term × Move). Idle (p .1)) (listing (rootsOf n b) b A es) → (x : ℤ) → x ∈ map (w .num) es → x ∈ w .members A
     entries-in A [] l q x m = absurd m
-    entries-in A (e ∷ es) l q x (inl z) = subst (λ (y : ℤ). y ∈ w .members A) (sym z) (to-member A (root b e) (is-root e (l .0)) (propagations-known 19 (In e A) (q .0)))
+    entries-in A (e ∷ es) l q x (inl z) = subst (λ (y : ℤ). y ∈ w .members A) (sym z) (to-member A (root b e) (is-root e (l .0)) (propagation-known 19 (In e A) (q .0)))
     entries-in A (e ∷ es) l q x (inr z) = entries-in A es (l .1) (q .1) x z
 
     exact : (A : SetVar) (es : List Term) → Each (λ e. e .index < n) es → Each (λ (p : Term × Move). Idle (p .1)) (listing (rootsOf n b) b A es) → Each (λ (p : Term × Move). Idle (p .1)) (choosing (rootsOf n b) b A es) → Lists w A es
@@ -161,9 +151,9 @@ module _ (val : Term → ℤ) where
 
     -- every constraint is true of the model
     pub model-good : (m : ℕ) (l : Constraint) → ConstraintIn n m l → Each (λ (p : Term × Move). Idle (p .1)) (propagations (rootsOf n b) b l) → Each (λ (p : Term × Move). Idle (p .1)) (splits (rootsOf n b) b l) → Good w l
-    model-good m (member t A) r f s = has-in (w .members A) (w .num t) (has-term t A (r .0) ∙ propagations-known 1 (In t A) (f .0))
-    model-good m (nonmember t A) r f s = λ x. clash (in-has (w .members A) (w .num t) x) (out-term t A (r .0) (propagations-known 2 (Out t A) (f .0)))
-    model-good m (same t u) r f s = ap (λ (y : ℕ). val (term y)) (eqb-true (rootAt b (t .index)) (rootAt b (u .index)) (propagations-known 3 (Same t u) (f .0)))
+    model-good m (member t A) r f s = has-in (w .members A) (w .num t) (has-term t A (r .0) ∙ propagation-known 1 (In t A) (f .0))
+    model-good m (nonmember t A) r f s = λ x. clash (in-has (w .members A) (w .num t) x) (out-term t A (r .0) (propagation-known 2 (Out t A) (f .0)))
+    model-good m (same t u) r f s = ap (λ (y : ℕ). val (term y)) (eqb-true (rootAt b (t .index)) (rootAt b (u .index)) (propagation-known 3 (Same t u) (f .0)))
     model-good m (different t u) r f s = λ x. go (eqb (rootAt b (t .index)) (rootAt b (u .index))) (eq-eqb (rootAt b (t .index)) (rootAt b (u .index)) (ap (λ (y : Term). y .index) (inj (root b t) (root b u) (is-root t (r .0)) (is-root u (r .1)) x))) (f .0)
       where
         go : (y : Bool) → y ≡ true → ((y && true) && true) ≡ false → ⊥

@@ -1,4 +1,4 @@
--- The listed records: their shape, and their worked assignments.
+-- The listed records: their shape, and their models.
 use mathlib.Core.Path.{_≡_, refl, sym, _∙_, ap, ap₂, subst, fun-ext}
 use mathlib.Core.Logic.{_↔_, _≢_, _⊎_, inl, inr}
 use mathlib.Core.Bool.{Bool, true, false, _&&_, cond, false≢true}
@@ -31,13 +31,14 @@ use Rattle.calculus.proofs.Walk.{walk-root}
 use Rattle.calculus.proofs.Asserting.{WellFormed, below, still, Ranged}
 use Rattle.calculus.proofs.MaskBounds.{Small, assert-small, start-small}
 use Rattle.calculus.proofs.Measure.{measure}
-use Rattle.calculus.proofs.Stepping.{step-fit, step-keeps, terms-each}
+use Rattle.calculus.proofs.Stepping.{step-fit, step-keeps}
+use Rattle.calculus.proofs.Sequences.{terms-each}
 use Rattle.calculus.proofs.LogLaws.{Full}
 use Rattle.calculus.proofs.LogEvents.{log-each, OfForm, forms-each}
 use Rattle.calculus.proofs.Start.{start-fit}
 use Rattle.calculus.proofs.ConstraintLaws.{InScope, constraints-in, holds-any}
 use Rattle.calculus.proofs.Solutions.{forms-full, model-both, below-is}
-use Rattle.calculus.proofs.Records.{record-length, root-byte, in-byte, out-byte, agrees-says}
+use Rattle.calculus.proofs.Records.{record-length, root-byte, in-byte, out-byte, agrees-record}
 use Rattle.calculus.proofs.ReadValid.{read-valid}
 use Rattle.calculus.proofs.CallLaws.{records-long, listed-app, was, same-solutions}
 
@@ -194,7 +195,7 @@ module _ (prob : Problem) (acc : Valid prob) (b : Branch) (F : Full (termCount p
       let w = model-both prob acc b F in
       let satisfied : Satisfies prob (branchModel prob b) = Each-zip (InScope prob) (Holds (values prob (branchModel prob b) (branchNumber prob b))) (Holds (values prob (branchModel prob b) (λ _. pos 0))) (prob .constraints)
       (λ l a q. holds-any prob acc (branchModel prob b) (branchNumber prob b) (λ _. pos 0) l a q) (acc .refers) (w .1) in
-      let agrees : Agrees (termCount prob) (values prob (branchModel prob b) (branchNumber prob b)) B = agrees-says (termCount prob) (values prob (branchModel prob b) (branchNumber prob b)) b (w .0) in (
+      let agrees : Agrees (termCount prob) (values prob (branchModel prob b) (branchNumber prob b)) B = agrees-record (termCount prob) (values prob (branchModel prob b) (branchNumber prob b)) b (w .0) in (
         subst (Satisfies prob) model-is satisfied,
         subst (λ (f : Term → ℤ). Agrees (termCount prob) (values prob (model prob B) f) B) numbers-are (subst (λ (g : Assignment). Agrees (termCount prob) (values prob g (branchNumber prob b)) B) model-is agrees),
         shape,

@@ -10,6 +10,7 @@ use lib.ListN.{length, take, drop, take-append-drop, length-take, length-append}
 use lib.Seq.{take-append-seam, drop-append-seam, take-append-le, take-append-add}
 use lib.Dec.{leb}
 use borrow.Author.Tests.{leb-true, le-leb, lt-leb}
+use Rattle.calculus.proofs.Parsing.{bind-parsed}
 use Rattle.calculus.specs.Reading.{Parsed, parsed, refused, _>>=_, ask, byte, bytes}
 
 -- ---- what an answer came from
@@ -21,11 +22,6 @@ pub no-refusal : {A : Type 0} {n : ℕ} {c : A} {X : Type 0} → _≡_ {A = Pars
 no-refusal e = let w : false ≡ true = cc in absurd (false≢true w)
 
 module _ {A B : Type 0} where
-  pub bound : (m : Parsed A) (f : A → Parsed B) (c : B) → (m >>= f) ≡ parsed c → (a : A) × (m ≡ parsed a) × (f a ≡ parsed c)
-  unfolding _>>=_
-  bound (parsed a) f c e = (a, refl, e)
-  bound (refused n) f c e = no-answer e
-
   pub stopped : (m : Parsed A) (f : A → Parsed B) (n : ℕ) → (m >>= f) ≡ refused n → (m ≡ refused n) ⊎ ((a : A) × (m ≡ parsed a) × (f a ≡ refused n))
   unfolding _>>=_
   stopped (parsed a) f n e = inr (a, refl, e)
@@ -149,7 +145,7 @@ module _ {A B C X : Type 0} {pack : A → List ℕ → X} {out : B → List ℕ 
 
       wrote : (bs : List ℕ) (c : C) → (p bs >>= k) ≡ parsed c → (b : B) × (u rest : List ℕ) × (bs ≡ u ++ rest) × (out b rest ≡ parsed c) × Then W U b u
       wrote bs c e =
-          let m = bound (p bs) k c e in
+          let m = bind-parsed (p bs) k c e in
           let x = P .wrote bs (m .0) (m .1) in
           let q : pack (x .0) (x .2) ≡ m .0 = cc (x .4) in
           let y = F (x .0) .wrote (x .2) c (rw q (m .2)) in

@@ -14,6 +14,7 @@ use Rattle.calculus.specs.Reading.{parsed, refused, _>>=_, ask, words, a
 use Rattle.calculus.proofs.Bools.{and-l, and-r}
 use Rattle.calculus.proofs.Words.{ascending-rising, range-is, letters-are}
 use Rattle.calculus.proofs.Parsers.{one, counted, given, answered, then, no-answer}
+use Rattle.calculus.proofs.ConstraintLaws.{last-le}
 use Rattle.calculus.proofs.Sections.{whole, First, first-reads}
 
 -- the first question is of the length alone
@@ -39,10 +40,6 @@ read-first bs prob e = let r = first-reads .wrote bs prob e in go (r .0) (r .1) 
     go : (a : Problem) (u rest : List ℕ) → bs ≡ u ++ rest → whole a rest ≡ parsed prob → First a u → First prob bs
     go a u [] b q f = let z : a ≡ prob = cc in subst (λ (x : Problem). First x bs) z (rw (b, append-nil u) f)
     go a u (x ∷ rest) b q f = no-answer q
-
-pub last-le : (ls : List Constraint) (w last : ℕ) → Numbered w last ls → w ≤ last
-last-le [] w last e = omega arith
-last-le (l ∷ ls) w last e = omega (arith, last-le ls (w + uses l) last (e .1))
 
 pub first-valid : (prob : Problem) (u : List ℕ) → First prob u → Valid prob
 first-valid prob u (then (one {b = k}) (then (counted {xs = ws} e₁) (answered t₃ (then (one {b = n}) (then (counted {xs = ns} e₂) (answered t₄ (then (one {b = s}) (then (counted {xs = ss} e₃) (answered t₅ (then (one {b = m}) (answered t₆ (then {a = a} ls (answered t₁₁ given))))))))))))) =

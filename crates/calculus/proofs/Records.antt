@@ -51,17 +51,17 @@ module _ (b : Branch) where
 
 -- a form and its record say the same
 module _ (n : ℕ) (v : Valuation) (b : Branch) where
-  pub agrees-says : AgreesBranch n v b → Agrees n v (recordOf n b)
+  pub agrees-record : AgreesBranch n v b → Agrees n v (recordOf n b)
   unfolding inside outside
-  agrees-says a = record {
+  agrees-record a = record {
     merges = λ t l. a .merges t l ∙ ap (λ (x : ℕ). v .num (term x)) (ap (rootAt b) (omega arith) ∙ sym (root-byte b n 0 t l));
     insides = λ t A l e. a .insides t A l (ap (λ (h : ℕ). bit (getD (b .insides) (rootAt b h) 0) (A .index)) (omega arith) ∙ ap (λ (x : ℕ). bit x (A .index)) (sym (in-byte b n 0 t l)) ∙ e);
     outsides = λ t A l e. a .outsides t A l (ap (λ (h : ℕ). bit (getD (b .outsides) (rootAt b h) 0) (A .index)) (omega arith) ∙ ap (λ (x : ℕ). bit x (A .index)) (sym (out-byte b n 0 t l)) ∙ e);
   }
 
-  says-agrees : Agrees n v (recordOf n b) → AgreesBranch n v b
+  record-agrees : Agrees n v (recordOf n b) → AgreesBranch n v b
   unfolding inside outside
-  says-agrees a = record {
+  record-agrees a = record {
     merges = λ t l. a .merges t l ∙ ap (λ (x : ℕ). v .num (term x)) (root-byte b n 0 t l ∙ ap (rootAt b) (omega arith));
     insides = λ t A l e. a .insides t A l (ap (λ (x : ℕ). bit x (A .index)) (in-byte b n 0 t l) ∙ ap (λ (h : ℕ). bit (getD (b .insides) (rootAt b h) 0) (A .index)) (omega arith) ∙ e);
     outsides = λ t A l e. a .outsides t A l (ap (λ (x : ℕ). bit x (A .index)) (out-byte b n 0 t l) ∙ ap (λ (h : ℕ). bit (getD (b .outsides) (rootAt b h) 0) (A .index)) (omega arith) ∙ e);
@@ -97,7 +97,7 @@ module _ (n : ℕ) where
 
 module _ (prob : Problem) (g : Assignment) where
   to-record : (bs : List Branch) → Some (SatisfiesBranch prob g) bs → Some (SatisfiesForm prob g) (map (recordOf (termCount prob)) bs)
-  to-record bs (here {x = b} m) = here (m .0, agrees-says (termCount prob) (values prob g (m .0)) b (m .1), m .2)
+  to-record bs (here {x = b} m) = here (m .0, agrees-record (termCount prob) (values prob g (m .0)) b (m .1), m .2)
   to-record bs (there {xs = cs} s) = there (to-record cs s)
 
   from-record : (bs : List Branch) → Some (SatisfiesForm prob g) (map (recordOf (termCount prob)) bs) → Some (SatisfiesBranch prob g) bs
@@ -109,7 +109,7 @@ module _ (prob : Problem) (g : Assignment) where
       cases (there q) = inr q
 
       go : SatisfiesForm prob g (recordOf (termCount prob) b) ⊎ Some (SatisfiesForm prob g) (map (recordOf (termCount prob)) bs) → (Some (SatisfiesForm prob g) (map (recordOf (termCount prob)) bs) → Some (SatisfiesBranch prob g) bs) → Some (SatisfiesBranch prob g) (b ∷ bs)
-      go (inl m) ih = here (m .0, says-agrees (termCount prob) (values prob g (m .0)) b (m .1), m .2)
+      go (inl m) ih = here (m .0, record-agrees (termCount prob) (values prob g (m .0)) b (m .1), m .2)
       go (inr q) ih = there (ih q)
 
 -- the whole run: a assignment satisfies the problem exactly where it satisfies one of the records listed

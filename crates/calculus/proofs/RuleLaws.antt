@@ -1,4 +1,4 @@
--- Every move that a constraint offers: it is sound for values of which the constraint is true, each child adds something, and its facts are in range.
+-- Every move that a constraint offers is sound for values of which the constraint is true.
 use mathlib.Core.Path.{_≡_, refl, sym, _∙_, ap, ap₂, subst, fun-ext}
 use mathlib.Core.Logic.{_⊎_, inl, inr, _↔_, _≢_}
 use mathlib.Core.Bool.{Bool, true, false, _&&_, _||_, not, cond, true≢false, false≢true}
@@ -31,20 +31,20 @@ module _ {F G : Type 0} (f : F → G) (p : G → Bool) where
   all2-not : (gs : List (List F)) → all (λ (g : List G). not (all p g)) (map (map f) gs) ≡ all (λ (g : List F). not (all (λ x. p (f x)) g)) gs
   all2-not gs = all-map (λ (g : List G). not (all p g)) (map f) gs ∙ ap (λ (q : List F → Bool). all q gs) (fun-ext (λ g. ap not (all-map p f g)))
 
-  pub sound-steer : (s : Rule F) → sound p (mapRule f s) ≡ sound (λ x. p (f x)) s
-  sound-steer s = ap₂ imp (all-map p f (s .premises)) (all2 (s .alternatives))
+  pub sound-map : (s : Rule F) → sound p (mapRule f s) ≡ sound (λ x. p (f x)) s
+  sound-map s = ap₂ imp (all-map p f (s .premises)) (all2 (s .alternatives))
 
-  pub applies-steer : (s : Rule F) → applies p (mapRule f s) ≡ applies (λ x. p (f x)) s
-  applies-steer s = ap₂ (λ (x y : Bool). x && not y) (all-map p f (s .premises)) (all2 (s .blockers))
+  pub applies-map : (s : Rule F) → applies p (mapRule f s) ≡ applies (λ x. p (f x)) s
+  applies-map s = ap₂ (λ (x y : Bool). x && not y) (all-map p f (s .premises)) (all2 (s .blockers))
 
-  pub adds-steer : (s : Rule F) → adds p (mapRule f s) ≡ adds (λ x. p (f x)) s
-  adds-steer s = ap₂ imp (applies-steer s) (all2-not (s .alternatives))
+  pub adds-map : (s : Rule F) → adds p (mapRule f s) ≡ adds (λ x. p (f x)) s
+  adds-map s = ap₂ imp (applies-map s) (all2-not (s .alternatives))
 
-pub truth-says : (v : Valuation) (h : Term) (s : Operand → SetVar) → (λ (l : Literal). truth v (factOf h s l)) ≡ litTrue (λ p. has (v .members (s p)) (v .num h))
-truth-says v h s = fun-ext (λ l. elim l [ R.In p ↦ refl | R.Out p ↦ refl ])
+pub truth-fact : (v : Valuation) (h : Term) (s : Operand → SetVar) → (λ (l : Literal). truth v (factOf h s l)) ≡ litTrue (λ p. has (v .members (s p)) (v .num h))
+truth-fact v h s = fun-ext (λ l. elim l [ R.In p ↦ refl | R.Out p ↦ refl ])
 
-pub known-says : (b : Branch) (h : Term) (s : Operand → SetVar) → (λ (l : Literal). known b (factOf h s l)) ≡ litKnown (λ p. known b (In h (s p))) (λ p. known b (Out h (s p)))
-known-says b h s = fun-ext (λ l. elim l [ R.In p ↦ refl | R.Out p ↦ refl ])
+pub known-fact : (b : Branch) (h : Term) (s : Operand → SetVar) → (λ (l : Literal). known b (factOf h s l)) ≡ litKnown (λ p. known b (In h (s p))) (λ p. known b (Out h (s p)))
+known-fact b h s = fun-ext (λ l. elim l [ R.In p ↦ refl | R.Out p ↦ refl ])
 
 -- ---- constraints in range, and constraints with their witnesses
 
@@ -90,7 +90,7 @@ module _ (v : Valuation) where
   Sound mv = sound (truth v) mv ≡ true
 
   at-sound : (h : Term) (s : Operand → SetVar) (r : Rule Literal) → sound (litTrue (λ p. has (v .members (s p)) (v .num h))) r ≡ true → Sound (at h s r)
-  at-sound h s r e = sound-steer (factOf h s) (truth v) r ∙ ap (λ (q : Literal → Bool). sound q r) (truth-says v h s) ∙ e
+  at-sound h s r e = sound-map (factOf h s) (truth v) r ∙ ap (λ (q : Literal → Bool). sound q r) (truth-fact v h s) ∙ e
 
   rows-each : (k : Relation) (A B C : SetVar) → Relates k (v .members A) (v .members B) (v .members C) → (h : Term) → Each (λ r. Sound (at h (operandOf A B C) r)) (rows k)
   rows-each k A B C g h =
@@ -105,17 +105,17 @@ module _ (v : Valuation) where
       (Each-imp (λ r. (h : Term) → Sound (at h (operandOf A B C) r)) (λ r. Each (λ h. Sound (at h (operandOf A B C) r)) hs) rs (λ r g. Each-all (λ h. Sound (at h (operandOf A B C) r)) g hs)
       (Each-swap (λ h r. Sound (at h (operandOf A B C) r)) rs f))
 
-  propagations-sure : (rule : ℕ) (premises : List Fact) (f : Fact) → truth v f ≡ true → Sound (propagation rule premises f)
-  propagations-sure rule premises f e = imp-i (all (truth v) premises) ((truth v f && true) || false) (λ _. rw e)
+  propagation-sound : (rule : ℕ) (premises : List Fact) (f : Fact) → truth v f ≡ true → Sound (propagation rule premises f)
+  propagation-sound rule premises f e = imp-i (all (truth v) premises) ((truth v f && true) || false) (λ _. rw e)
 
   -- the entries are true of each
   in-all : (A : SetVar) (es : List Term) → ((x : ℤ) → x ∈ map (v .num) es → x ∈ v .members A) → Each (λ e. truth v (In e A) ≡ true) es
   in-all A [] f = tt
   in-all A (e ∷ es) f = (in-has (v .members A) (v .num e) (f (v .num e) (inl refl)), in-all A es (λ x h. f x (inr h)))
 
-  lists-sound : (b : Branch) (hs : List Term) (A : SetVar) (es : List Term) → Lists v A es → Each (λ (p : Term × Move). Sound (p .1)) (listing hs b A es)
-  lists-sound b hs A es g = Each-map (λ (p : Term × Move). Sound (p .1)) (λ (e : Term). (root b e, propagation 19 [] (In e A))) es
-      (Each-imp (λ e. truth v (In e A) ≡ true) (λ e. Sound (propagation 19 [] (In e A))) es (λ e q. propagations-sure 19 [] (In e A) q) (in-all A es (λ x. g x .1)))
+  listing-sound : (b : Branch) (hs : List Term) (A : SetVar) (es : List Term) → Lists v A es → Each (λ (p : Term × Move). Sound (p .1)) (listing hs b A es)
+  listing-sound b hs A es g = Each-map (λ (p : Term × Move). Sound (p .1)) (λ (e : Term). (root b e, propagation 19 [] (In e A))) es
+      (Each-imp (λ e. truth v (In e A) ≡ true) (λ e. Sound (propagation 19 [] (In e A))) es (λ e q. propagation-sound 19 [] (In e A) q) (in-all A es (λ x. g x .1)))
 
   module _ (b : Branch) (n : ℕ) (k : List Term) (F : WellFormed n k b) (s : Sat v b) where
     -- an entry with the value, and its root
@@ -158,13 +158,13 @@ module _ (v : Valuation) where
         ∙ any-distinct (λ x. eqZ (v .num h) (v .num x)) (map (root b) es)
         (in-entries (v .num h) es (g (v .num h) .0 (has-in (v .members A) (v .num h) (and-l (truth v (In h A)) true e)))))
 
-    chooses-sound : (hs : List Term) (A : SetVar) (es : List Term) → Lists v A es → Each (λ (p : Term × Move). Sound (p .1)) (choosing hs b A es)
-    chooses-sound hs A es g = Each-map (λ (p : Term × Move). Sound (p .1)) (λ (h : Term). (h, choose hs b A es h)) hs (Each-all (λ h. Sound (choose hs b A es h)) (choose-sound hs A es g) hs)
+    choosing-sound : (hs : List Term) (A : SetVar) (es : List Term) → Lists v A es → Each (λ (p : Term × Move). Sound (p .1)) (choosing hs b A es)
+    choosing-sound hs A es g = Each-map (λ (p : Term × Move). Sound (p .1)) (λ (h : Term). (h, choose hs b A es h)) hs (Each-all (λ h. Sound (choose hs b A es h)) (choose-sound hs A es g) hs)
 
     module _ (hs : List Term) where
       pub propagations-sound : (l : Constraint) → Good v l → Each (λ (p : Term × Move). Sound (p .1)) (propagations hs b l)
-      propagations-sound (member t A) g = (propagations-sure 1 [] (In t A) (in-has (v .members A) (v .num t) g), tt)
-      propagations-sound (nonmember t A) g = (propagations-sure 2 [] (Out t A) (rw (not-has t A g)), tt)
+      propagations-sound (member t A) g = (propagation-sound 1 [] (In t A) (in-has (v .members A) (v .num t) g), tt)
+      propagations-sound (nonmember t A) g = (propagation-sound 2 [] (Out t A) (rw (not-has t A g)), tt)
         where
           not-has : (t : Term) (A : SetVar) → ¬ (v .num t ∈ v .members A) → has (v .members A) (v .num t) ≡ false
           not-has t A g = go (test (has (v .members A) (v .num t)))
@@ -172,12 +172,12 @@ module _ (v : Valuation) where
               go : (has (v .members A) (v .num t) ≡ true) ⊎ (has (v .members A) (v .num t) ≡ false) → has (v .members A) (v .num t) ≡ false
               go (inl p) = absurd (g (has-in (v .members A) (v .num t) p))
               go (inr p) = p
-      propagations-sound (same t u) g = (propagations-sure 3 [] (Same t u) (eq-eqZ (v .num t) (v .num u) g), tt)
+      propagations-sound (same t u) g = (propagation-sound 3 [] (Same t u) (eq-eqZ (v .num t) (v .num u) g), tt)
       propagations-sound (different t u) g = (imp-i (truth v (Same t u) && true) false (λ e. absurd (g (eqZ-eq (v .num t) (v .num u) (and-l (truth v (Same t u)) true e)))), tt)
       propagations-sound (relation k A B C) g = over-sound k A B C hs (propagationRows k) (λ h. Each-left (λ r. Sound (at h (operandOf A B C) r)) (propagationRows k) (splitRows k) (rows-each k A B C g h))
       propagations-sound (negation k A B C w) g = tt
-      propagations-sound (exactly A es) g = lists-sound b hs A es g
-      propagations-sound (interval A i j) g = lists-sound b hs A (entries i j) g
+      propagations-sound (exactly A es) g = listing-sound b hs A es g
+      propagations-sound (interval A i j) g = listing-sound b hs A (entries i j) g
 
       pub splits-sound : (l : Constraint) → Good v l → Each (λ (p : Term × Move). Sound (p .1)) (splits hs b l)
       splits-sound (member t A) g = tt
@@ -186,5 +186,5 @@ module _ (v : Valuation) where
       splits-sound (different t u) g = tt
       splits-sound (relation k A B C) g = over-sound k A B C hs (splitRows k) (λ h. Each-right (λ r. Sound (at h (operandOf A B C) r)) (propagationRows k) (splitRows k) (rows-each k A B C g h))
       splits-sound (negation k A B C w) g = (at-sound w (operandOf A B C) (negationRow k) (negation-sound k (λ p. has (v .members (operandOf A B C p)) (v .num w)) g), tt)
-      splits-sound (exactly A es) g = chooses-sound hs A es g
-      splits-sound (interval A i j) g = chooses-sound hs A (entries i j) g
+      splits-sound (exactly A es) g = choosing-sound hs A es g
+      splits-sound (interval A i j) g = choosing-sound hs A (entries i j) g

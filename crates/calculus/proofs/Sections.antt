@@ -13,7 +13,7 @@ use Rattle.calculus.specs.Reading.{Parsed, parsed, refused, _>>=_, ask, 
 use Rattle.calculus.proofs.Bools.{and-l}
 use Rattle.calculus.proofs.Words.{ascending-rising}
 use Rattle.calculus.proofs.Parsers.{Recognizes, OneByte, Counted, Given, given, Asked, answered, Then, no-answer, no-refusal, byte-reads, bytes-read, asks, and-then}
-use Rattle.calculus.proofs.ConstraintParsers.{Lines, constraints-read}
+use Rattle.calculus.proofs.ConstraintParsers.{WrittenConstraints, constraints-read}
 
 -- the answer where a problem is written and rest follows
 abbrev pub whole : Problem → List ℕ → Parsed Problem
@@ -57,7 +57,7 @@ module _ (cs : List ℤ) (ns : List ℕ) where
 
   -- what each section and those after it are: the constraints, the sets, the variables, the constants
   abbrev pub Fourth : List ℕ → Problem → List ℕ → Type 0
-  Fourth ss = Then OneByte (λ m. Asked (leb m 48) (Then (Lines cs N (length ss) N m) (λ a. Asked (leb (a .1) 64) (Given (made ss a)))))
+  Fourth ss = Then OneByte (λ m. Asked (leb m 48) (Then (WrittenConstraints cs N (length ss) N m) (λ a. Asked (leb (a .1) 64) (Given (made ss a)))))
 
   abbrev pub Third : Problem → List ℕ → Type 0
   Third = Then OneByte (λ s. Then (Counted s) (λ ss. Asked (letters 65 90 ss && leb s 8) (Fourth ss)))

@@ -13,7 +13,7 @@ use Rattle.calculus.specs.Terms.{Term}
 use Rattle.calculus.specs.Search.{distinct}
 use Rattle.calculus.proofs.Bools.{clash, Each-imp, not-t}
 use Rattle.calculus.proofs.AddingFacts.{Each-keep, Each-distinct}
-use Rattle.calculus.proofs.Stepping.{keep-each}
+use Rattle.calculus.proofs.Sequences.{keep-each}
 
 abbrev other : ℕ → Term → Bool
 other a y = not (eqb (y .index) a)

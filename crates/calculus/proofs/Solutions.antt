@@ -1,4 +1,4 @@
--- The solutions of an accepted problem are those of its forms; every form has one, the model; no path is longer than T × (S + 1).
+-- The solutions of a valid problem are those of its forms, and every form has one: the model.
 use mathlib.Core.Path.{_≡_, refl, sym, _∙_, ap, ap₂, subst, fun-ext}
 use mathlib.Core.Logic.{_⊎_, inl, inr, _↔_, _≢_}
 use mathlib.Core.Bool.{Bool, true, false, _&&_, _||_, not, cond, true≢false, false≢true}
@@ -26,11 +26,13 @@ use Rattle.calculus.proofs.Truth.{Sat, Is}
 use Rattle.calculus.proofs.Asserting.{WellFormed}
 use Rattle.calculus.proofs.Measure.{measure}
 use Rattle.calculus.proofs.RuleLaws.{ConstraintIn, Good}
-use Rattle.calculus.proofs.Stepping.{IsRoot, solved-full, terms-each, terms-at}
+use Rattle.calculus.proofs.Stepping.{IsRoot, solved-full}
+use Rattle.calculus.proofs.Sequences.{terms-each, terms-at}
+use Rattle.calculus.proofs.Integers.{rising-inj}
 use Rattle.calculus.proofs.ModelLaws.{modelValues, model-agrees, model-good}
 use Rattle.calculus.proofs.LogLaws.{log-sat, log-full, Full}
 use Rattle.calculus.proofs.Start.{start-fit, start-sat, start-measure, sat-agrees, agrees-sat}
-use Rattle.calculus.proofs.ConstraintLaws.{InScope, rising-inj, constraints-in, constants-distinct, good-holds, own, holds-any, witnessed}
+use Rattle.calculus.proofs.ConstraintLaws.{InScope, constraints-in, constants-distinct, good-holds, own, holds-any, witnessed}
 
 Some-zip : (P Q R : Branch → Type 0) → ((b : Branch) → P b → Q b → R b) → (bs : List Branch) → Each P bs → Some Q bs → Some R bs
 Some-zip P Q R f bs e (here {x = b} q) = here (f b (e .0) q)

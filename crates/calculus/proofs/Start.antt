@@ -1,4 +1,4 @@
--- The start of a search; and a form's joins and facts against what a branch knows.
+-- The start of a search; and what a branch knows against the merges and facts that it states.
 use mathlib.Core.Path.{_≡_, refl, sym, _∙_, ap, ap₂, subst}
 use mathlib.Core.Logic.{_⊎_, inl, inr, _↔_, _≢_}
 use mathlib.Core.Bool.{Bool, true, false, _&&_, _||_, not, cond, true≢false, false≢true}
@@ -74,7 +74,7 @@ pub start-measure : (n m : ℕ) → measure n m (start n) ≡ n * suc m
 start-measure n m = sum-const n (suc m) (weight m (start n))
     (λ t l. rw (eq-eqb (rootAt (start n) t) t (start-root n t)) (ap suc (sum-const m 1 (undecided (start n) t) (λ A q. rw (start-inside n t (setVar A), start-outside n t (setVar A))) ∙ mul-one m)))
 
--- values satisfy a branch exactly where its joins and facts are true of them
+-- values satisfy a branch exactly where its merges and facts are true of them
 module _ (n : ℕ) (k : List Term) (v : Valuation) (b : Branch) (F : WellFormed n k b) where
   pub sat-agrees : Sat v b → AgreesBranch n v b
   sat-agrees s = record {

@@ -23,46 +23,7 @@ use Rattle.calculus.proofs.Measure.{measure}
 use Rattle.calculus.proofs.Children.{children-sat, children-fit}
 use Rattle.calculus.proofs.RuleLaws.{ConstraintIn, Good, propagations-sound, splits-sound}
 use Rattle.calculus.proofs.AddingFacts.{Each-keep, Tame, propagations-tame, splits-tame}
-
--- ---- lists of numbers
-
-module _ (P : ℕ → Type 0) where
-  pub up-each : (s n : ℕ) → ((t : ℕ) → s ≤ t → t < s + n → P t) → Each P (upFrom s n)
-  up-each s zero f = tt
-  up-each s (suc n) f = (f s (omega arith) (omega arith), up-each (suc s) n (λ t l h. f t (omega arith) (omega arith)))
-
-  pub up-at : (s n : ℕ) → Each P (upFrom s n) → (t : ℕ) → s ≤ t → t < s + n → P t
-  up-at s zero e t l h = absurd (omega arith)
-  up-at s (suc n) e t l h = go (ℕ-discrete t s) (λ q. up-at (suc s) n (e .1) t q (omega arith))
-    where
-      go : Dec (t ≡ s) → (suc s ≤ t → P t) → P t
-      go (yes q) f = subst P (sym q) (e .0)
-      go (no q) f = f (omega arith)
-
-module _ (P : Term → Type 0) where
-  pub terms-each : (s n : ℕ) → ((t : ℕ) → s ≤ t → t < s + n → P (term t)) → Each P (termsFrom s n)
-  terms-each s n f = Each-map P term (upFrom s n) (up-each (λ t. P (term t)) s n f)
-
-  pub terms-at : (s n : ℕ) → Each P (termsFrom s n) → (t : ℕ) → s ≤ t → t < s + n → P (term t)
-  terms-at s n e t l h = up-at (λ t. P (term t)) s n (map-Each P term (upFrom s n) e) t l h
-
-module _ {X : Type 0} (P : X → Type 0) (p : X → Bool) where
-  -- what is kept passes the test, and what passes it is kept
-  pub keep-each : (l : List X) → Each P l → Each (λ x. P x × (p x ≡ true)) (keep p l)
-  keep-each [] e = tt
-  keep-each (x ∷ xs) e = go (p x) refl (keep-each xs (e .1))
-    where
-      go : (t : Bool) → p x ≡ t → Each (λ x. P x × (p x ≡ true)) (keep p xs) → Each (λ x. P x × (p x ≡ true)) (keep p (x ∷ xs))
-      go true q ih = rw q ((e .0, q), ih)
-      go false q ih = rw q ih
-
-  pub keep-at : (l : List X) → Each P (keep p l) → Each (λ x. p x ≡ true → P x) l
-  keep-at [] e = tt
-  keep-at (x ∷ xs) e = go (p x) refl (keep-at xs)
-    where
-      go : (t : Bool) → p x ≡ t → (Each P (keep p xs) → Each (λ x. p x ≡ true → P x) xs) → (p x ≡ true → P x) × Each (λ x. p x ≡ true → P x) xs
-      go true q ih = let e′ : P x × Each P (keep p xs) = rw q at e in (λ _. e′ .0, ih (e′ .1))
-      go false q ih = (λ z. clash z q, ih (rw q at e))
+use Rattle.calculus.proofs.Sequences.{terms-each, terms-at, keep-each, keep-at}
 
 module _ (n : ℕ) (b : Branch) where
   abbrev pub IsRoot : Term → Type 0
@@ -97,19 +58,19 @@ module _ (Q : Move → Type 0) (f : Constraint → List (Term × Move)) where
   )
 
 module _ (n : ℕ) (ls : List Constraint) (b : Branch) (Q : Move → Type 0) where
-  abbrev OfForced : Constraint → Type 0
-  OfForced l = Each (λ (p : Term × Move). Q (p .1)) (propagations (rootsOf n b) b l)
+  abbrev OfPropagations : Constraint → Type 0
+  OfPropagations l = Each (λ (p : Term × Move). Q (p .1)) (propagations (rootsOf n b) b l)
 
   abbrev OfSplits : Constraint → Type 0
   OfSplits l = Each (λ (p : Term × Move). Q (p .1)) (splits (rootsOf n b) b l)
 
-  pub places-each : Each OfForced ls → Each OfSplits ls → Each (λ (p : Candidate). Q (p .move)) (places n ls b)
+  pub places-each : Each OfPropagations ls → Each OfSplits ls → Each (λ (p : Candidate). Q (p .move)) (places n ls b)
   places-each f s = Each-app (λ (p : Candidate). Q (p .move)) (candidates (propagations (rootsOf n b) b) 0 ls) (candidates (splits (rootsOf n b) b) 0 ls)
       (candidates-each Q (propagations (rootsOf n b) b) 0 ls f) (candidates-each Q (splits (rootsOf n b) b) 0 ls s)
 
-  pub each-places : Each (λ (p : Candidate). Q (p .move)) (places n ls b) → Each (λ l. OfForced l × OfSplits l) ls
+  pub each-places : Each (λ (p : Candidate). Q (p .move)) (places n ls b) → Each (λ l. OfPropagations l × OfSplits l) ls
   each-places e =
-      Each-zip OfForced OfSplits (λ l. OfForced l × OfSplits l) ls (λ l x y. (x, y))
+      Each-zip OfPropagations OfSplits (λ l. OfPropagations l × OfSplits l) ls (λ l x y. (x, y))
       (each-candidates Q (propagations (rootsOf n b) b) 0 ls (Each-left (λ (p : Candidate). Q (p .move)) (candidates (propagations (rootsOf n b) b) 0 ls) (candidates (splits (rootsOf n b) b) 0 ls) e))
       (each-candidates Q (splits (rootsOf n b) b) 0 ls (Each-right (λ (p : Candidate). Q (p .move)) (candidates (propagations (rootsOf n b) b) 0 ls) (candidates (splits (rootsOf n b) b) 0 ls) e))
 
@@ -121,7 +82,7 @@ module _ (n : ℕ) (k : List Term) (m : ℕ) (ls : List Constraint) (li : Each (
 
   all-tame : Each (λ (p : Candidate). Tame n k m b F (p .move)) (places n ls b)
   all-tame = places-each n ls b (Tame n k m b F)
-      (Each-imp (ConstraintIn n m) (OfForced n ls b (Tame n k m b F)) ls (propagations-tame n k m b F (rootsOf n b) hn) li)
+      (Each-imp (ConstraintIn n m) (OfPropagations n ls b (Tame n k m b F)) ls (propagations-tame n k m b F (rootsOf n b) hn) li)
       (Each-imp (ConstraintIn n m) (OfSplits n ls b (Tame n k m b F)) ls (splits-tame n k m b F (rootsOf n b) hn) li)
 
   -- what was found next
@@ -187,7 +148,7 @@ module _ (n : ℕ) (k : List Term) (m : ℕ) (ls : List Constraint) (li : Each (
     where
       all-sound : Each (λ (p : Candidate). sound (truth v) (p .move) ≡ true) (places n ls b)
       all-sound = places-each n ls b (λ mv. sound (truth v) mv ≡ true)
-          (Each-imp (Good v) (OfForced n ls b (λ mv. sound (truth v) mv ≡ true)) ls (propagations-sound v b n k F s (rootsOf n b)) g)
+          (Each-imp (Good v) (OfPropagations n ls b (λ mv. sound (truth v) mv ≡ true)) ls (propagations-sound v b n k F s (rootsOf n b)) g)
           (Each-imp (Good v) (OfSplits n ls b (λ mv. sound (truth v) mv ≡ true)) ls (splits-sound v b n k F s (rootsOf n b)) g)
 
       go : (x : Next) → Found x → x ≡ step r cs → Some (Sat v) cs

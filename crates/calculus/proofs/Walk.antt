@@ -1,4 +1,4 @@
--- The walk to a class's root, where each term is merged to one that is no higher.
+-- The walk to a class's root, where each term has a parent that is no higher.
 use mathlib.Core.Path.{_≡_, refl, sym, _∙_, ap, subst}
 use mathlib.Core.Logic.{_≢_}
 use mathlib.Core.Bool.{Bool, true, false, cond}

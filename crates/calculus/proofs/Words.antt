@@ -16,13 +16,8 @@ use Rattle.calculus.specs.Problem.{Rising, Letters}
 use Rattle.calculus.specs.Reading.{signed, words, ascending, inRange, letters}
 use Rattle.calculus.specs.Encoding.{Bytes, twoBytes, Fits16}
 use Rattle.calculus.proofs.Bools.{and-l, and-r, and-i, each-all, all-each, Each-imp}
-
-pub pass : {b : Bool} → b ≡ true → T b
-pass e = subst T (sym e) tt
-
-pub passed : (b : Bool) → T b → b ≡ true
-passed true t = refl
-passed false t = absurd t
+use Rattle.calculus.proofs.Integers.{pass, passed, lt-le}
+use Rattle.calculus.proofs.Sequences.{each-at, at-each}
 
 -- ---- one number
 
@@ -113,15 +108,6 @@ module _ (n : ℕ) (xs : List ℤ) (more : List ℕ) (e : length xs ≡ n) where
 
 -- ---- at a place of a list
 
-pub each-at : {A : Type 0} (P : A → Type 0) (xs : List A) (d : A) → Each P xs → (p : ℕ) → p < length xs → P (getD xs p d)
-each-at P [] d e p l = absurd (omega arith)
-each-at P (x ∷ xs) d e zero l = e .0
-each-at P (x ∷ xs) d e (suc p) l = each-at P xs d (e .1) p (le-of-suc-le-suc l)
-
-pub at-each : {A : Type 0} (P : A → Type 0) (xs : List A) (d : A) → ((p : ℕ) → p < length xs → P (getD xs p d)) → Each P xs
-at-each P [] d h = tt
-at-each P (x ∷ xs) d h = (h 0 (suc-le-suc zero-le), at-each P xs d (λ p l. h (suc p) (suc-le-suc l)))
-
 -- in the order of R
 module _ {A : Type 0} (R : A → A → Type 0) (d : A) where
   abbrev Ordered : List A → Type 0
@@ -147,16 +133,10 @@ module _ {A : Type 0} (R : A → A → Type 0) (d : A) where
 
 -- ---- question 3
 
-lt-le : (a b : ℤ) → a <ℤ b → a ≤ℤ b
-lt-le (pos a) (pos b) h = record { le = le→leb a b (omega (arith, leb→le (suc a) b (h .lt))) }
-lt-le (pos a) (negsuc b) h = absurd (h .lt)
-lt-le (negsuc a) (pos b) h = record { le = tt }
-lt-le (negsuc a) (negsuc b) h = record { le = le→leb b a (omega (arith, leb→le (suc b) a (h .lt))) }
-
 pub ascending-rising : (xs : List ℤ) → ascending xs ≡ true → Rising xs
 ascending-rising [] e = none-order _<ℤ_ (pos 0)
 ascending-rising (a ∷ []) e = one-order _<ℤ_ (pos 0) a
-ascending-rising (a ∷ b ∷ xs) e = more-order _<ℤ_ (pos 0) (λ x y z h k. <ℤ-≤ℤ-trans h (lt-le y z k)) a b xs (record { lt = pass (and-l (ltZ a b) (ascending (b ∷ xs)) e) }) (ascending-rising (b ∷ xs) (and-r (ltZ a b) (ascending (b ∷ xs)) e))
+ascending-rising (a ∷ b ∷ xs) e = more-order _<ℤ_ (pos 0) (λ x y z h k. <ℤ-≤ℤ-trans h (lt-le k)) a b xs (record { lt = pass (and-l (ltZ a b) (ascending (b ∷ xs)) e) }) (ascending-rising (b ∷ xs) (and-r (ltZ a b) (ascending (b ∷ xs)) e))
 
 pub rising-ascending : (xs : List ℤ) → Rising xs → ascending xs ≡ true
 rising-ascending [] r = refl

@@ -1,0 +1,67 @@
+-- A row of a table of examples: what is handed in and what is expected of it, and what the definitions give.
+use mathlib.Core.List.{List, [], _∷_, _++_, map}
+use Prim.Native.Nat.{ℕ, zero, suc, _%_, _/_}
+use lib.ListN.{length, replicate}
+use Rattle.calculus.specs.Lists.{upFrom}
+use Rattle.calculus.specs.Terms.{setVar}
+use Rattle.calculus.specs.Problem.{Problem, setCount, Assignment}
+use Rattle.calculus.specs.Encoding.{Handed}
+use Rattle.calculus.specs.Reading.{Parsed, parsed, _>>=_, ask, byte, bytes, readConstraints, readSets, readVariables, readConstants, read}
+use Rattle.calculus.specs.Branch.{start, rootAt, inside, outside, addInside, addOutside, merge, torn}
+use Rattle.calculus.specs.Forms
+use Rattle.calculus.specs.Check.{count, numbers, readAssignment}
+use Rattle.calculus.specs.Calls
+use Rattle.calculus.specs.Calls.{Answer, Outcome, over, asked, call, Checked}
+
+pub data Row : Type 0 where
+  -- of a run: the problem's bytes, the budget, the lengths of the form buffer and of the trace buffer; then the answer, the records and the trace
+  run : (problem : List ℕ) (budget formLength traceLength : ℕ) → Answer → (records trace : List ℕ) → Row
+  -- of an assignment check: the problem's bytes and the assignment's; then the answer
+  check : (problem assignment : List ℕ) → Checked → Row
+  -- of a model: the problem's bytes and the record of a solved form; then the values of the variables and the members of the sets
+  model : (problem form : List ℕ) → Handed → Row
+
+pub data Result : Type 0 where
+  ofRun : Outcome → Result
+  ofCheck : Checked → Result
+  ofModel : Parsed Handed → Result
+
+-- a buffer of n bytes, before the call
+abbrev pub lent : ℕ → List ℕ
+lent n = replicate n 238
+
+-- what is expected: of a run, that the records and the trace stand over the beginning of the buffers and later bytes are as they were
+abbrev pub expected : Row → Result
+expected (run problem budget formLength traceLength answer records trace) = ofRun (record { answer = answer; forms = over records (lent formLength); trace = over trace (lent traceLength) })
+expected (check problem assignment answer) = ofCheck answer
+expected (model problem form values) = ofModel (parsed values)
+
+-- an assignment's values, in the order of the problem's variables and set variables
+abbrev pub valuesOf : Problem → Assignment → Handed
+valuesOf prob g = record { numbers = map (g .number) (upFrom 0 (length (prob .variables))); sets = map (λ A. g .members (setVar A)) (upFrom 0 (setCount prob)) }
+
+-- what the definitions give. Where this unfolds, all that they compute with does
+unfoldable pub given : Row → Result
+unfolding start rootAt inside outside addInside addOutside merge torn _>>=_ ask byte bytes readConstraints readSets readVariables readConstants read asked call count numbers readAssignment Calls.check
+given (run problem budget formLength traceLength answer records trace) = ofRun (call problem budget (lent formLength) (lent traceLength))
+given (check problem assignment answer) = ofCheck (Calls.check problem assignment)
+given (model problem form values) = ofModel (do
+  prob ← read problem
+  parsed (valuesOf prob (Forms.model prob form)))
+
+-- ---- long lists of bytes
+
+-- n two-byte numbers from a upward
+abbrev pub wordsFrom : ℕ → ℕ → List ℕ
+wordsFrom a zero = []
+wordsFrom a (suc n) = a % 256 ∷ a / 256 ∷ wordsFrom (suc a) n
+
+-- the record of n terms from t upward, each its own class and nothing known
+abbrev pub freeFrom : ℕ → ℕ → List ℕ
+freeFrom t zero = []
+freeFrom t (suc n) = t ∷ 0 ∷ 0 ∷ freeFrom (suc t) n
+
+-- n times the same bytes
+abbrev pub repeated : ℕ → List ℕ → List ℕ
+repeated zero bs = []
+repeated (suc n) bs = bs ++ repeated n bs
