@@ -47,3 +47,7 @@ pub mod StepBounds
 pub mod ByteLaws
 pub mod AnswerLaws
 pub mod Examples
+pub mod Enumerating
+pub mod RulePlaces
+pub mod FirstPlace
+pub mod Proved

@@ -1,0 +1,35 @@
+-- The demands, all of them.
+use Rattle.calculus.specs.Demands.{Demands}
+use Rattle.calculus.proofs.ReadsWritten.{reads}
+use Rattle.calculus.proofs.Refuses.{refuses}
+use Rattle.calculus.proofs.CallLaws.{asks, kept, follows, stops, same-solutions}
+use Rattle.calculus.proofs.ByteLaws.{bytewise}
+use Rattle.calculus.proofs.AnswerLaws.{answers}
+use Rattle.calculus.proofs.NoChoice.{one-way}
+use Rattle.calculus.proofs.FirstPlace.{first-place}
+use Rattle.calculus.proofs.AssertSpec.{asserts}
+use Rattle.calculus.proofs.Models.{models, verdicts}
+use Rattle.calculus.proofs.WorkOrder.{short-paths}
+use Rattle.calculus.proofs.ReadAssignment.{reads-assignment}
+use Rattle.calculus.proofs.Checking.{checks}
+
+pub demands : Demands
+demands = record {
+  reads = reads;
+  refuses = refuses;
+  asks = asks;
+  kept = kept;
+  bytewise = bytewise;
+  answers = answers;
+  follows = follows;
+  one-way = one-way;
+  first-place = first-place;
+  asserts = asserts;
+  models = models;
+  verdicts = verdicts;
+  stops = stops;
+  same-solutions = same-solutions;
+  short-paths = short-paths;
+  reads-assignment = reads-assignment;
+  checks = checks;
+}
