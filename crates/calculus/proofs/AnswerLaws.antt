@@ -74,6 +74,21 @@ forms-few bytes budget forms trace prob q v n c a =
     let w = follows bytes budget forms trace prob q v n c a in
     omega (arith, few-more prob acc budget (length forms) ((0, start (termCount prob)) ∷ []) (start-fit (termCount prob) (constantTerms prob), tt) _ _ v (w .2) (w .3))
 
+-- steps are at most the budget, and the budget at most 10,000; so the forms fit 32 bits
+module _ (bytes : List ℕ) (budget : ℕ) (forms trace : List ℕ) (prob : Problem) (q : asked bytes budget (length trace) ≡ parsed prob) (v : Verdict) (n c : ℕ) (e : call bytes budget forms trace .answer ≡ ended v n c) where
+  pub steps-few : (n ≤ budget) × (budget ≤ 10000)
+  steps-few =
+      let k = kept bytes budget forms trace .1 prob q in
+      let same : ended (k .0) (k .1) (k .2) ≡ ended v n c = sym (k .3) ∙ e in
+      let z : k .1 ≡ n = cc in
+      (omega (arith, k .4), asked-parsed bytes budget (length trace) prob q .1)
+
+  pub forms-fit : c ≤ 650001
+  forms-fit =
+      let terms : suc (termCount prob) ≤ 65 = omega (arith, read-valid bytes prob (asked-parsed bytes budget (length trace) prob q .0) .few-terms) in
+      let steps : n ≤ 10000 = omega (arith, steps-few) in
+      omega (arith, forms-few bytes budget forms trace prob q v n c e, mul-le-mul terms steps)
+
 -- ---- the word
 
 pub unpacks : (verdict number steps forms : ℕ) → verdict < 256 → number < 256 → steps < 65536 → forms < 4294967296 → Unpacks (pack verdict number steps forms) verdict number steps forms
@@ -126,14 +141,7 @@ module _ (bytes : List ℕ) (budget : ℕ) (forms trace : List ℕ) where
     where
       go : (a : Answer) → Asked bytes budget trace a → a ≡ ended v n c → (n ≤ 10000) × (c ≤ 650001)
       go a (no m q) z = let w : false ≡ true = cc in absurd (false≢true w)
-      go a (yes prob u m d q) z =
-          let p = asked-parsed bytes budget (length trace) prob q in
-          let k = kept bytes budget forms trace .1 prob q in
-          let same : ended (k .0) (k .1) (k .2) ≡ ended v n c = sym (k .3) ∙ e in
-          let steps : k .1 ≡ n = cc in
-          let small : n ≤ 10000 = omega (arith, k .4, p .1) in
-          let terms : suc (termCount prob) ≤ 65 = omega (arith, read-valid bytes prob (p .0) .few-terms) in
-          (small, omega (arith, forms-few bytes budget forms trace prob q v n c e, mul-le-mul terms small))
+      go a (yes prob u m d q) z = (omega (arith, steps-few bytes budget forms trace prob q v n c e), forms-fit bytes budget forms trace prob q v n c e)
 
 -- ---- the check's word
 

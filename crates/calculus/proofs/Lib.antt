@@ -51,3 +51,4 @@ pub mod Enumerating
 pub mod RulePlaces
 pub mod FirstPlace
 pub mod Proved
+pub mod Bounds
