@@ -88,6 +88,7 @@ module _ (n : ℕ) (k : List Term) (m : ℕ) (b : Branch) (F : WellFormed n k b)
     addOutside-is (Same u x) = let e : known (addOut b (rootAt b (t .index)) A) (Same u x) ≡ known b (Same u x) = ap₂ eqb (root-addOutside b (rootAt b (t .index)) A (u .index)) (root-addOutside b (rootAt b (t .index)) A (x .index)) in ((λ p. sym e ∙ p), (λ p. e ∙ p))
 
     in-none : (assert k b (In t A) ≡ none) ↔ Conflicts b n k (In t A)
+    unfolding assert
     in-none = ((λ e. inl (t, A, lt, inr (one t t refl, refl), conflictIf-none (known b (Out t A)) (addIn b (rootAt b (t .index)) A) e)), from)
       where
         from : Conflicts b n k (In t A) → assert k b (In t A) ≡ none
@@ -96,6 +97,7 @@ module _ (n : ℕ) (k : List Term) (m : ℕ) (b : Branch) (F : WellFormed n k b)
         from (inr (i, j, p, q, d, o)) = absurd (alone i j p q d o)
 
     out-none : (assert k b (Out t A) ≡ none) ↔ Conflicts b n k (Out t A)
+    unfolding assert
     out-none = ((λ e. inl (t, A, lt, conflictIf-none (known b (In t A)) (addOut b (rootAt b (t .index)) A) e, inr (one t t refl, refl))), from)
       where
         from : Conflicts b n k (Out t A) → assert k b (Out t A) ≡ none
@@ -295,6 +297,7 @@ module _ (n : ℕ) (k : List Term) (m : ℕ) (b : Branch) (F : WellFormed n k b)
   )
 
   assert-spec : (f : Fact) → Ranged n m f → (assert k b f ≡ none ↔ Conflicts b n k f) × ((c : Branch) → assert k b f ≡ some c → (g : Fact) → Ranged n m g → (known c g ≡ true) ↔ Then b f g)
+  unfolding assert
   assert-spec (In t A) l = (in-none t A (l .0), λ c q g _. subst (λ (x : Branch). (known x g ≡ true) ↔ Then b (In t A) g) (conflictIf-some (known b (Out t A)) (addIn b (rootAt b (t .index)) A) c q .1) (addInside-is t A (l .0) g))
   assert-spec (Out t A) l = (out-none t A (l .0), λ c q g _. subst (λ (x : Branch). (known x g ≡ true) ↔ Then b (Out t A) g) (conflictIf-some (known b (In t A)) (addOut b (rootAt b (t .index)) A) c q .1) (addOutside-is t A (l .0) g))
   assert-spec (Same s t) l = let z = same-spec s t (l .0) (l .1) (assert k b (Same s t)) (merges k b (s .index) (t .index)) in (z .0, λ c q g _. z .1 c q g)

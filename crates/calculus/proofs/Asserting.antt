@@ -196,6 +196,7 @@ pub data Merges (k : List Term) (b : Branch) (t u : ℕ) : Option Branch → Typ
   lower : rootAt b u < rootAt b t → Merges k b t u (mergeRootsAt k b (rootAt b u) (rootAt b t))
 
 pub merges : (k : List Term) (b : Branch) (t u : ℕ) → Merges k b t u (assert k b (Same (term t) (term u)))
+unfolding assert
 merges k b t u = go (ℕ-discrete (rootAt b t) (rootAt b u))
   where
     go : Dec (rootAt b t ≡ rootAt b u) → Merges k b t u (assert k b (Same (term t) (term u)))
@@ -252,6 +253,7 @@ module _ (n : ℕ) (k : List Term) (m : ℕ) (b : Branch) (F : WellFormed n k b)
         (merge-sat v b s u t (sym e) (moves u t ht h) (root-in-insides u hu) (root-in-outsides u hu))
 
     pub assert-keeps : (f : Fact) → Ranged n m f → truth v f ≡ true → (c : Branch) → assert k b f ≡ some c → Sat v c
+    unfolding assert
     assert-keeps (In t A) r e c q = subst (Sat v) (conflictIf-some (known b (Out t A)) (addIn b (rootAt b (t .index)) A) c q .1) (addInside-sat v b s (t .index) A (root-in-insides (t .index) (r .0)) e)
     assert-keeps (Out t A) r e c q = subst (Sat v) (conflictIf-some (known b (In t A)) (addOut b (rootAt b (t .index)) A) c q .1) (addOutside-sat v b s (t .index) A (root-in-outsides (t .index) (r .0)) e)
     assert-keeps (Same t u) r e c q = same-keeps (t .index) (u .index) (r .0) (r .1) (eqZ-eq (v .num t) (v .num u) e) (assert k b (Same t u)) (merges k b (t .index) (u .index)) c q
@@ -289,6 +291,7 @@ module _ (n : ℕ) (k : List Term) (m : ℕ) (b : Branch) (F : WellFormed n k b)
       same-stops t u ht hu e o (lower h) q = mergeRoots-stops u t hu ht (sym e) h q
 
       pub assert-stops : (f : Fact) → Ranged n m f → truth v f ≡ true → assert k b f ≡ none → ⊥
+      unfolding assert
       assert-stops (In t A) r e q = clash e (not-t (truth v (In t A)) (s (Out t A) (conflictIf-none (known b (Out t A)) (addIn b (rootAt b (t .index)) A) q)))
       assert-stops (Out t A) r e q = clash (s (In t A) (conflictIf-none (known b (In t A)) (addOut b (rootAt b (t .index)) A) q)) (not-t (truth v (In t A)) e)
       assert-stops (Same t u) r e q = same-stops (t .index) (u .index) (r .0) (r .1) (eqZ-eq (v .num t) (v .num u) e) (assert k b (Same t u)) (merges k b (t .index) (u .index)) q

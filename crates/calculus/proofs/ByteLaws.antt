@@ -71,6 +71,7 @@ module _ (prob : Problem) (acc : Valid prob) where
       subst Bytes (sym (s .3)) (omega (arith, s .4), (omega (arith, s .5, acc .few-constraints), (omega (arith, s .6, acc .few-terms), (omega (arith, s .7, acc .few-terms), tt))))
 
   run-bytes : (budget room : ℕ) → Bytes (run prob budget room .records) × Bytes (run prob budget room .trace)
+  unfolding run
   run-bytes budget room =
       let L : List Event = log (termCount prob) (constantTerms prob) (prob .constraints) (termCount prob * suc (setCount prob)) (start (termCount prob)) in
       tally-bytes (termCount prob) L

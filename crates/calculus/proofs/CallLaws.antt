@@ -111,6 +111,7 @@ module _ (n : ℕ) (k : List Term) where
     next-four b (some p) r cs e = let z : (p .move .rule ∷ p .constraint ∷ p .concerned .index ∷ length (children k b (p .move)) ∷ []) ≡ r = cc in ap (length {A = ℕ}) (sym z)
 
     log-four : (fuel : ℕ) (b : Branch) → Each Four (log n k ls fuel b)
+    unfolding next
     log-four fuel b = log-each n k ls (λ _. Unit {0}) Four (λ _ _. tt) (λ b _ r cs q. (next-four b (first (λ (p : Candidate). applies (known b) (p .move)) (places n ls b)) r cs q, Each-all (λ _. Unit {0}) (λ _. tt) cs)) fuel b tt
 
 -- ---- the buffers
@@ -168,6 +169,7 @@ finished R.NOROOM c v p (inl q) = let w : false ≡ true = cc in absurd (false�
 finished R.NOROOM c v p (inr q) = let w : false ≡ true = cc in absurd (false≢true w)
 
 pub same-solutions : SameSolutions
+unfolding run
 same-solutions bytes budget forms trace prob e v n c a f g =
     let w = was bytes budget forms trace prob e v n c a in
     let acc = read-valid bytes prob e in
@@ -179,6 +181,7 @@ same-solutions bytes budget forms trace prob e v n c a f g =
     subst (λ (x : List (List ℕ)). Satisfies prob g ↔ Some (SatisfiesForm prob g) x) (sym z) (run-solutions prob acc budget (length forms) d g)
 
 pub follows : Follows
+unfolding run
 follows bytes budget forms trace prob q v n c a =
     let e = asked-parsed bytes budget (length trace) prob q .0 in
     let w = was bytes budget forms trace prob e v n c a in
@@ -210,6 +213,7 @@ of-noroom R.SPENT c p = let w : false ≡ true = cc in absurd (false≢true w)
 of-noroom R.NOROOM c p = refl
 
 pub stops : Stops
+unfolding run
 stops bytes budget forms trace prob e n c =
     let s : Tally = run prob budget (length forms) in
     let L : List Event = log (termCount prob) (constantTerms prob) (prob .constraints) (termCount prob * suc (setCount prob)) (start (termCount prob)) in (
@@ -232,7 +236,7 @@ over-length : (xs ys : List ℕ) → length xs ≤ length ys → length (over xs
 over-length xs ys l = omega (arith, length-append xs (drop (length xs) ys), length-drop (length xs) ys)
 
 pub kept : Kept
-unfolding call
+unfolding call run
 kept bytes budget forms trace = (
   (λ n q. rw q),
   (λ prob q.

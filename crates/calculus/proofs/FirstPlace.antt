@@ -12,7 +12,7 @@ use Rattle.calculus.specs.Lists.{first, picked}
 use Rattle.calculus.specs.Terms.{Term, term, setVar}
 use Rattle.calculus.specs.Meaning.{Constraint, member}
 use Rattle.calculus.specs.Branch.{Branch, assertAll}
-use Rattle.calculus.specs.Search.{Move, propagations, splits, rootsOf, Candidate, candidates, places, solved, step, children, taken}
+use Rattle.calculus.specs.Search.{next, Move, propagations, splits, rootsOf, Candidate, candidates, places, solved, step, children, taken}
 use Rattle.calculus.specs.Problem.{termCount, constantTerms}
 use Rattle.calculus.specs.Order.{Place, Before, Fires, nextOf, Enabled}
 use Rattle.calculus.specs.Demands.{FirstPlace}
@@ -84,6 +84,7 @@ four : {a b c d e f g h : ℕ} → a ≡ e → b ≡ f → c ≡ g → d ≡ h �
 four p q r s = λ i. p i ∷ q i ∷ r i ∷ s i ∷ []
 
 pub first-place : FirstPlace
+unfolding next
 first-place prob b = (λ e. nothing e (first (passes b) (places (termCount prob) (prob .constraints) b)) refl, λ r cs e. found r cs e (first (passes b) (places (termCount prob) (prob .constraints) b)) refl)
   where
     E : Enum b (places (termCount prob) (prob .constraints) b) (Enabled prob b)

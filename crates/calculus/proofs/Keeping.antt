@@ -116,6 +116,7 @@ module _ (n : ℕ) (k : List Term) (b : Branch) (F : WellFormed n k b) where
   same-fit t u ht hu o (lower h) c q = mergeRoots-fit u t hu ht h c q
 
   pub assert-fit : (m : ℕ) (f : Fact) → Ranged n m f → (c : Branch) → assert k b f ≡ some c → WellFormed n k c
+  unfolding assert
   assert-fit m (In t A) r c q =
       let w = conflictIf-some (known b (Out t A)) (addIn b (rootAt b (t .index)) A) c q in
       subst (WellFormed n k) (w .1) (addInside-fit (rootAt b (t .index)) A (omega (arith, below n k b F (t .index))) (w .0))

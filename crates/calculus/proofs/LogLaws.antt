@@ -122,6 +122,7 @@ no-candidates f i [] e = refl
 no-candidates f i (l ∷ ls) e = rw (e .0) (no-candidates f (suc i) ls (e .1))
 
 no-next : (k : List Term) (m : ℕ) (ls : List Constraint) → Each (ConstraintIn 0 m) ls → (b : Branch) → next 0 k ls b ≡ solved
+unfolding next
 no-next k m ls li b =
     rw (no-candidates (propagations [] b) 0 ls (Each-imp (ConstraintIn 0 m) (λ l. propagations [] b l ≡ []) ls (no-propagations m b) li), no-candidates (splits [] b) 0 ls (Each-imp (ConstraintIn 0 m) (λ l. splits [] b l ≡ []) ls (no-splits m b) li))
 

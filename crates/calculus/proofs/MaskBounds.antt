@@ -54,6 +54,7 @@ module _ (m : ℕ) (b : Branch) (s : Small m b) where
   same-small k t u o (lower h) c q = subst (Small m) (conflictIf-some ((ownsAt k b (rootAt b u) && ownsAt k b (rootAt b t)) || tornAt (mergeAt b (rootAt b u) (rootAt b t)) (rootAt b u)) (mergeAt b (rootAt b u) (rootAt b t)) c q .1) (merge-small (rootAt b u) (rootAt b t))
 
   pub assert-small : (n : ℕ) (k : List Term) (f : Fact) → Ranged n m f → (c : Branch) → assert k b f ≡ some c → Small m c
+  unfolding assert
   assert-small n k (In t A) r c q = subst (Small m) (conflictIf-some (known b (Out t A)) (addIn b (rootAt b (t .index)) A) c q .1) (addInside-small (rootAt b (t .index)) A (r .1))
   assert-small n k (Out t A) r c q = subst (Small m) (conflictIf-some (known b (In t A)) (addOut b (rootAt b (t .index)) A) c q .1) (addOutside-small (rootAt b (t .index)) A (r .1))
   assert-small n k (Same t u) r c q = same-small k (t .index) (u .index) (assert k b (Same t u)) (merges k b (t .index) (u .index)) c q

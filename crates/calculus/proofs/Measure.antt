@@ -131,6 +131,7 @@ module _ (n : ℕ) (k : List Term) (m : ℕ) (b : Branch) (F : WellFormed n k b)
 
   -- a fact that was not known
   pub assert-falls : (f : Fact) → Ranged n m f → known b f ≡ false → (c : Branch) → assert k b f ≡ some c → measure n m c < measure n m b
+  unfolding assert
   assert-falls (In t A) r e c q =
       let w = conflictIf-some (known b (Out t A)) (addIn b (rootAt b (t .index)) A) c q in
       subst (λ (d : Branch). measure n m d < measure n m b) (w .1) (addInside-lt (rootAt b (t .index)) A (root-in n k m b F (t .index) (r .0)) (r .1) (still n k b F (t .index)) e (w .0))
@@ -165,11 +166,13 @@ module _ (n : ℕ) (k : List Term) (m : ℕ) (b : Branch) (F : WellFormed n k b)
   eq-same t u h o (lower l) c q = absurd (omega arith)
 
   pub assert-same : (f : Fact) → Ranged n m f → known b f ≡ true → (c : Branch) → assert k b f ≡ some c → (g : Fact) → known c g ≡ known b g
+  unfolding assert
   assert-same (In t A) r e c q g = subst (λ (d : Branch). known d g ≡ known b g) (conflictIf-some (known b (Out t A)) (addIn b (rootAt b (t .index)) A) c q .1) (addInside-same (t .index) A (r .0) e g)
   assert-same (Out t A) r e c q g = subst (λ (d : Branch). known d g ≡ known b g) (conflictIf-some (known b (In t A)) (addOut b (rootAt b (t .index)) A) c q .1) (addOutside-same (t .index) A (r .0) e g)
   assert-same (Same t u) r e c q g = subst (λ (d : Branch). known d g ≡ known b g) (eq-same (t .index) (u .index) (eqb-true (rootAt b (t .index)) (rootAt b (u .index)) e) (assert k b (Same t u)) (merges k b (t .index) (u .index)) c q) refl
 
   assert-le-known : (f : Fact) → Ranged n m f → known b f ≡ true → (c : Branch) → assert k b f ≡ some c → measure n m c ≤ measure n m b
+  unfolding assert
   assert-le-known (In t A) r e c q = subst (λ (d : Branch). measure n m d ≤ measure n m b) (conflictIf-some (known b (Out t A)) (addIn b (rootAt b (t .index)) A) c q .1) (addInside-le (rootAt b (t .index)) A (root-in n k m b F (t .index) (r .0)))
   assert-le-known (Out t A) r e c q = subst (λ (d : Branch). measure n m d ≤ measure n m b) (conflictIf-some (known b (In t A)) (addOut b (rootAt b (t .index)) A) c q .1) (addOutside-le (rootAt b (t .index)) A (root-in n k m b F (t .index) (r .0)))
   assert-le-known (Same t u) r e c q = subst (λ (d : Branch). measure n m d ≤ measure n m b) (eq-same (t .index) (u .index) (eqb-true (rootAt b (t .index)) (rootAt b (u .index)) e) (assert k b (Same t u)) (merges k b (t .index) (u .index)) c q) (le-refl (measure n m b))

@@ -222,6 +222,7 @@ each-take P (suc c) [] e = tt
 each-take P (suc c) (b ∷ bs) e = (e .0, each-take P c bs (e .1))
 
 pub models : Models
+unfolding run
 models bytes budget forms trace prob e v n c a =
     let w = was bytes budget forms trace prob e v n c a in
     let acc = read-valid bytes prob e in

@@ -115,6 +115,7 @@ module _ (prob : Problem) (g : Assignment) where
 -- the whole run: a assignment satisfies the problem exactly where it satisfies one of the records listed
 pub run-solutions : (prob : Problem) → Valid prob → (budget room : ℕ) → run prob budget room .end ≡ DONE → (g : Assignment)
     → Satisfies prob g ↔ Some (SatisfiesForm prob g) (listedForms (3 * termCount prob) (run prob budget room .forms) (run prob budget room .records))
+unfolding run
 run-solutions prob acc budget room e g =
     let es : List Event = log (termCount prob) (constantTerms prob) (prob .constraints) (termCount prob * suc (setCount prob)) (start (termCount prob)) in
     let d = done-all (termCount prob) es budget room e in

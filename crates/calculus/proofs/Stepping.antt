@@ -95,6 +95,7 @@ module _ (n : ℕ) (k : List Term) (m : ℕ) (ls : List Constraint) (li : Each (
         → Found (step (p .move .rule ∷ p .constraint ∷ p .concerned .index ∷ length (children k b (p .move)) ∷ []) (children k b (p .move)))
 
   pub found : Found (next n k ls b)
+  unfolding next
   found = go (first test? (places n ls b)) refl
     where
       go : (o : Option Candidate) → first test? (places n ls b) ≡ o → Found (taken k b o)

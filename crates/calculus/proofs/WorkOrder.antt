@@ -184,6 +184,7 @@ module _ (prob : Problem) (acc : Valid prob) (budget room : ℕ) where
 
   -- the whole run
   runs-whole : (s : Progress) → s .steps ≡ 0 → s .records ≡ [] → (ps : List ℕ) × Works prob budget room ((0, start (termCount prob)) ∷ []) s (verdictOf (run prob budget room .end) (s .forms + run prob budget room .forms)) (plus s (run prob budget room)) ps × Each (λ d. d ≤ bound prob acc) ps
+  unfolding run
   runs-whole s e f =
       let L : List Event = log (termCount prob) (constantTerms prob) (prob .constraints) (termCount prob * suc (setCount prob)) (start (termCount prob)) in
       let g = runs-log (termCount prob * suc (setCount prob)) 0 (start (termCount prob)) (at-start prob acc) (le-of-eq (start-measure (termCount prob) (setCount prob))) [] [] runs-end s budget room (omega arith) (ap (λ (x : List ℕ). length x + room) f ∙ omega arith) in

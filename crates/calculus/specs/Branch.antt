@@ -81,7 +81,7 @@ abbrev pub mergeRoots : List Term → Branch → Term → Term → Option Branch
 mergeRoots constants b lo hi = conflictIf ((owns constants b lo && owns constants b hi) || torn (merge b lo hi) lo) (merge b lo hi)
 
 -- asserting a fact (document 01: joining, noting): the branch as it then is, or none if it conflicts
-abbrev pub assert : List Term → Branch → Fact → Option Branch
+unfoldable pub assert : List Term → Branch → Fact → Option Branch
 assert constants b (In t A) = conflictIf (known b (Out t A)) (addInside b (root b t) A)
 assert constants b (Out t A) = conflictIf (known b (In t A)) (addOutside b (root b t) A)
 assert constants b (Same t u) = cond (eqb (rootAt b (t .index)) (rootAt b (u .index))) (some b)

@@ -37,5 +37,5 @@ tally n zero room (stepped r ∷ es) = stop SPENT
 tally n (suc left) room (stepped r ∷ es) = takeStep r (tally n left room es)
 
 -- no path is longer than terms × (sets + 1), so that is fuel enough
-abbrev pub run : Problem → ℕ → ℕ → Tally
+unfoldable pub run : Problem → ℕ → ℕ → Tally
 run prob budget room = tally (termCount prob) budget room (log (termCount prob) (constantTerms prob) (prob .constraints) (termCount prob * suc (setCount prob)) (start (termCount prob)))

@@ -109,5 +109,5 @@ taken constants b none = solved
 taken constants b (some p) = step (p .move .rule ∷ p .constraint ∷ p .concerned .index ∷ length (children constants b (p .move)) ∷ []) (children constants b (p .move))
 
 -- of n terms, with these constants among them: the first place that applies
-abbrev pub next : ℕ → List Term → List Constraint → Branch → Next
+unfoldable pub next : ℕ → List Term → List Constraint → Branch → Next
 next n constants ls b = taken constants b (first (λ (p : Candidate). applies (known b) (p .move)) (places n ls b))

@@ -7,7 +7,9 @@ use Rattle.calculus.specs.Terms.{setVar}
 use Rattle.calculus.specs.Problem.{Problem, setCount, Assignment}
 use Rattle.calculus.specs.Encoding.{Handed}
 use Rattle.calculus.specs.Reading.{Parsed, parsed, _>>=_, ask, byte, bytes, readConstraints, readSets, readVariables, readConstants, read}
-use Rattle.calculus.specs.Branch.{start, rootAt, inside, outside, addInside, addOutside, merge, torn}
+use Rattle.calculus.specs.Search.{next}
+use Rattle.calculus.specs.Run
+use Rattle.calculus.specs.Branch.{start, assert, rootAt, inside, outside, addInside, addOutside, merge, torn}
 use Rattle.calculus.specs.Forms
 use Rattle.calculus.specs.Check.{count, numbers, readAssignment}
 use Rattle.calculus.specs.Calls
@@ -42,7 +44,7 @@ valuesOf prob g = record { numbers = map (g .number) (upFrom 0 (length (prob .va
 
 -- what the definitions give. Where this unfolds, all that they compute with does
 unfoldable pub given : Row → Result
-unfolding start rootAt inside outside addInside addOutside merge torn _>>=_ ask byte bytes readConstraints readSets readVariables readConstants read asked call count numbers readAssignment Calls.check
+unfolding start assert next Run.run rootAt inside outside addInside addOutside merge torn _>>=_ ask byte bytes readConstraints readSets readVariables readConstants read asked call count numbers readAssignment Calls.check
 given (run problem budget formLength traceLength answer records trace) = ofRun (call problem budget (lent formLength) (lent traceLength))
 given (check problem assignment answer) = ofCheck (Calls.check problem assignment)
 given (model problem form values) = ofModel (do
