@@ -26,7 +26,7 @@ use Rattle.calculus.proofs.Start.{start-fit}
 same-index : {t u : Term} → t .index ≡ u .index → t ≡ u
 same-index p = λ i. record { index = p i }
 
-reached-fit : (n : ℕ) (k : List Term) (m : ℕ) (b : Branch) → Reached n k m b → WellFormed n k b
+pub reached-fit : (n : ℕ) (k : List Term) (m : ℕ) (b : Branch) → Reached n k m b → WellFormed n k b
 reached-fit n k m b begun = start-fit n k
 reached-fit n k m b (asserted {b = a} f r o e) = assert-fit n k a (reached-fit n k m a r) m f o b e
 

@@ -38,6 +38,7 @@ pub mod Refuses
 pub mod LogEvents
 pub mod WorkOrder
 pub mod CallLaws
+pub mod ModelValues
 pub mod Models
 pub mod CheckLaws
 pub mod Checking
@@ -50,5 +51,6 @@ pub mod Examples
 pub mod Enumerating
 pub mod RulePlaces
 pub mod FirstPlace
+pub mod RecordLaws
 pub mod Proved
 pub mod Bounds

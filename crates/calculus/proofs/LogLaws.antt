@@ -12,9 +12,9 @@ use borrow.Author.Tests.{eqb-true, eq-eqb}
 use Rattle.calculus.specs.Terms.{Term, SetVar}
 use Rattle.calculus.specs.Lists.{bit, upFrom, first, Each, Some, here, there, gather}
 use Rattle.calculus.specs.Meaning.{Constraint, member, nonmember, same, different, relation, negation, exactly, interval, entries, Valuation}
-use Rattle.calculus.specs.Relations.{Rule, Literal, Operand, Negation, unequal, denies}
+use Rattle.calculus.specs.Relations.{Rule, Literal, Operand, propagationRows, splitRows}
 use Rattle.calculus.specs.Branch.{Branch, start, rootAt, inside, outside, Fact, In, Out, Same, known}
-use Rattle.calculus.specs.Search.{Move, over, propagations, splits, places, rootsOf, candidates, Candidate, Next, solved, step, next}
+use Rattle.calculus.specs.Search.{Move, operandOf, over, propagations, splits, places, rootsOf, candidates, Candidate, Next, solved, step, next}
 use Rattle.calculus.specs.Log.{Event, formed, stepped, log}
 use Rattle.calculus.proofs.BranchForms.{formsOf}
 use Rattle.calculus.proofs.Bools.{clash, Each-app, Each-imp, Each-zip}
@@ -102,7 +102,7 @@ no-propagations m b (member t A) r = absurd (omega (arith, r .0))
 no-propagations m b (nonmember t A) r = absurd (omega (arith, r .0))
 no-propagations m b (same t u) r = absurd (omega (arith, r .0))
 no-propagations m b (different t u) r = absurd (omega (arith, r .0))
-no-propagations m b (relation K A B C) r = no-over (Rattle.calculus.specs.Search.operandOf A B C) (Rattle.calculus.specs.Relations.propagationRows K)
+no-propagations m b (relation K A B C) r = no-over (operandOf A B C) (propagationRows K)
 no-propagations m b (negation K A B C w) r = refl
 no-propagations m b (exactly A es) r = rw (no-entry es (r .1))
 no-propagations m b (interval A i j) r = rw (no-entry (entries i j) (r .1))
@@ -112,7 +112,7 @@ no-splits m b (member t A) r = refl
 no-splits m b (nonmember t A) r = refl
 no-splits m b (same t u) r = refl
 no-splits m b (different t u) r = refl
-no-splits m b (relation K A B C) r = no-over (Rattle.calculus.specs.Search.operandOf A B C) (Rattle.calculus.specs.Relations.splitRows K)
+no-splits m b (relation K A B C) r = no-over (operandOf A B C) (splitRows K)
 no-splits m b (negation K A B C w) r = absurd (omega (arith, r .1))
 no-splits m b (exactly A es) r = refl
 no-splits m b (interval A i j) r = refl

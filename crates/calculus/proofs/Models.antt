@@ -22,10 +22,11 @@ use Rattle.calculus.specs.Log.{Event, formed, stepped, log}
 use Rattle.calculus.specs.Problem.{Problem, constantCount, termCount, setCount, constantTerms, Assignment, values, Satisfies, Valid}
 use Rattle.calculus.proofs.BranchForms.{formsOf, problemForms, AgreesBranch, branchNumber, branchModel}
 use Rattle.calculus.specs.Run.{Tally, tally, run}
+use Rattle.calculus.specs.Run as R
 use Rattle.calculus.specs.Forms.{recordFrom, recordOf, listedForms, Agrees, SatisfiesForm, recordRoot, classValue, modelNumber, model}
 use Rattle.calculus.specs.Reading.{parsed, read}
-use Rattle.calculus.specs.Calls.{Verdict, FORMS, FALSE, ended, over, call}
-use Rattle.calculus.specs.Demands.{Shape, Models, Verdicts}
+use Rattle.calculus.specs.Calls.{Verdict, FORMS, FALSE, ended, verdictOf, over, call}
+use Rattle.calculus.specs.Demands.{Shape, Valued, Models, Verdicts}
 use Rattle.calculus.proofs.Bools.{and-i, clash, Each-app, Each-imp, Each-zip, Each-map}
 use Rattle.calculus.proofs.Walk.{walk-root}
 use Rattle.calculus.proofs.Asserting.{WellFormed, below, still, Ranged}
@@ -33,6 +34,7 @@ use Rattle.calculus.proofs.MaskBounds.{Small, assert-small, start-small
 use Rattle.calculus.proofs.Measure.{measure}
 use Rattle.calculus.proofs.Stepping.{step-fit, step-keeps}
 use Rattle.calculus.proofs.Sequences.{terms-each}
+use Rattle.calculus.proofs.ModelValues.{valued}
 use Rattle.calculus.proofs.LogLaws.{Full}
 use Rattle.calculus.proofs.LogEvents.{log-each, OfForm, forms-each}
 use Rattle.calculus.proofs.Start.{start-fit}
@@ -188,9 +190,9 @@ module _ (prob : Problem) (acc : Valid prob) (b : Branch) (F : Full (termCount p
 
   -- what is asked of a listed record
   abbrev Model : List ℕ → Type 0
-  Model r = Satisfies prob (model prob r) × Agrees (termCount prob) (values prob (model prob r) (modelNumber prob r)) r × Shape prob r
+  Model r = Satisfies prob (model prob r) × Agrees (termCount prob) (values prob (model prob r) (modelNumber prob r)) r × Shape prob r × Valued prob r
 
-  model-true : Satisfies prob (model prob B) × Agrees (termCount prob) (values prob (model prob B) (modelNumber prob B)) B × Shape prob B
+  model-true : Satisfies prob (model prob B) × Agrees (termCount prob) (values prob (model prob B) (modelNumber prob B)) B × Shape prob B × Valued prob B
   model-true =
       let w = model-both prob acc b F in
       let satisfied : Satisfies prob (branchModel prob b) = Each-zip (InScope prob) (Holds (values prob (branchModel prob b) (branchNumber prob b))) (Holds (values prob (branchModel prob b) (λ _. pos 0))) (prob .constraints)
@@ -199,6 +201,7 @@ module _ (prob : Problem) (acc : Valid prob) (b : Branch) (F : Full (termCount p
         subst (Satisfies prob) model-is satisfied,
         subst (λ (f : Term → ℤ). Agrees (termCount prob) (values prob (model prob B) f) B) numbers-are (subst (λ (g : Assignment). Agrees (termCount prob) (values prob g (branchNumber prob b)) B) model-is agrees),
         shape,
+        valued prob acc B shape,
       )
 
 -- ---- what a run lists, however it ended
@@ -236,19 +239,19 @@ models bytes budget forms trace prob e v n c a =
     (Each-zip (Full (termCount prob) (constantTerms prob) (setCount prob) (prob .constraints) (constraints-in prob acc)) (Small (setCount prob)) (λ b. Fine (recordOf (termCount prob) b)) (formsOf L) (λ b F m. model-true prob acc b F m) (forms-full prob acc) (forms-small prob acc))))
   where
     Fine : List ℕ → Type 0
-    Fine r = Satisfies prob (model prob r) × Agrees (termCount prob) (values prob (model prob r) (modelNumber prob r)) r × Shape prob r
+    Fine r = Satisfies prob (model prob r) × Agrees (termCount prob) (values prob (model prob r) (modelNumber prob r)) r × Shape prob r × Valued prob r
 
-of-false : (e : Rattle.calculus.specs.Run.End) (c : ℕ) → Rattle.calculus.specs.Calls.verdictOf e c ≡ FALSE → c ≡ 0
-of-false Rattle.calculus.specs.Run.DONE zero p = refl
-of-false Rattle.calculus.specs.Run.DONE (suc c) p = let w : false ≡ true = cc in absurd (false≢true w)
-of-false Rattle.calculus.specs.Run.SPENT c p = let w : false ≡ true = cc in absurd (false≢true w)
-of-false Rattle.calculus.specs.Run.NOROOM c p = let w : false ≡ true = cc in absurd (false≢true w)
+of-false : (e : R.End) (c : ℕ) → verdictOf e c ≡ FALSE → c ≡ 0
+of-false R.DONE zero p = refl
+of-false R.DONE (suc c) p = let w : false ≡ true = cc in absurd (false≢true w)
+of-false R.SPENT c p = let w : false ≡ true = cc in absurd (false≢true w)
+of-false R.NOROOM c p = let w : false ≡ true = cc in absurd (false≢true w)
 
-of-forms : (e : Rattle.calculus.specs.Run.End) (c : ℕ) → Rattle.calculus.specs.Calls.verdictOf e c ≡ FORMS → 0 < c
-of-forms Rattle.calculus.specs.Run.DONE zero p = let w : false ≡ true = cc in absurd (false≢true w)
-of-forms Rattle.calculus.specs.Run.DONE (suc c) p = omega arith
-of-forms Rattle.calculus.specs.Run.SPENT c p = let w : false ≡ true = cc in absurd (false≢true w)
-of-forms Rattle.calculus.specs.Run.NOROOM c p = let w : false ≡ true = cc in absurd (false≢true w)
+of-forms : (e : R.End) (c : ℕ) → verdictOf e c ≡ FORMS → 0 < c
+of-forms R.DONE zero p = let w : false ≡ true = cc in absurd (false≢true w)
+of-forms R.DONE (suc c) p = omega arith
+of-forms R.SPENT c p = let w : false ≡ true = cc in absurd (false≢true w)
+of-forms R.NOROOM c p = let w : false ≡ true = cc in absurd (false≢true w)
 
 pub verdicts : Verdicts
 verdicts bytes budget forms trace prob e n c = (
@@ -265,6 +268,6 @@ verdicts bytes budget forms trace prob e n c = (
     gone : (g : Assignment) → Some (SatisfiesForm prob g) [] → ⊥
     gone g s = elim s [ ]
 
-    one : (x : ℕ) → 0 < x → Each (λ r. Satisfies prob (model prob r) × Agrees (termCount prob) (values prob (model prob r) (modelNumber prob r)) r × Shape prob r) (listedForms (3 * termCount prob) x (call bytes budget forms trace .forms)) → (g : Assignment) × Satisfies prob g
+    one : (x : ℕ) → 0 < x → Each (λ r. Satisfies prob (model prob r) × Agrees (termCount prob) (values prob (model prob r) (modelNumber prob r)) r × Shape prob r × Valued prob r) (listedForms (3 * termCount prob) x (call bytes budget forms trace .forms)) → (g : Assignment) × Satisfies prob g
     one zero l m = absurd (omega arith)
     one (suc x) l m = (model prob (take (3 * termCount prob) (call bytes budget forms trace .forms)), m .0 .0)

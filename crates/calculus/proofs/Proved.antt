@@ -7,6 +7,7 @@ use Rattle.calculus.proofs.ByteLaws.{bytewise}
 use Rattle.calculus.proofs.AnswerLaws.{answers}
 use Rattle.calculus.proofs.NoChoice.{one-way}
 use Rattle.calculus.proofs.FirstPlace.{first-place}
+use Rattle.calculus.proofs.RecordLaws.{records, classes-once, reaches}
 use Rattle.calculus.proofs.AssertSpec.{asserts}
 use Rattle.calculus.proofs.Models.{models, verdicts}
 use Rattle.calculus.proofs.WorkOrder.{short-paths}
@@ -24,6 +25,9 @@ demands = record {
   follows = follows;
   one-way = one-way;
   first-place = first-place;
+  records = records;
+  classes-once = classes-once;
+  reaches = reaches;
   asserts = asserts;
   models = models;
   verdicts = verdicts;

@@ -17,7 +17,8 @@ use Rattle.calculus.specs.Lists.{Each, Some, here, there, keep, first, u
 use Rattle.calculus.specs.Meaning.{Constraint, Valuation, Holds}
 use Rattle.calculus.specs.Terms.{Term, SetVar, term, termsFrom}
 use Rattle.calculus.specs.Branch.{Branch, start, rootAt, root, inside, Fact, In, Out, Same, known}
-use Rattle.calculus.specs.Search.{Move, rootsOf, next, solved}
+use Rattle.calculus.specs.Relations.{applies}
+use Rattle.calculus.specs.Search.{Move, propagations, splits, rootsOf, next, solved}
 use Rattle.calculus.specs.Problem.{Problem, constantCount, nameable, termCount, setCount, constantTerms, Assignment, valueOf, values, Satisfies, Valid}
 use Rattle.calculus.specs.Forms.{valueBy, classValue}
 use Rattle.calculus.proofs.BranchForms.{AgreesBranch, SatisfiesBranch, branchNumber, branchModel, problemForms}
@@ -90,13 +91,6 @@ module _ (prob : Problem) (acc : Valid prob) where
     pub solutions : Satisfies prob g ↔ Some (SatisfiesBranch prob g) (problemForms prob)
     solutions = (to-forms, Some-any (SatisfiesBranch prob g) (Satisfies prob g) from-solved (problemForms prob))
 
-  -- no forms, no solution
-  pub no-forms : problemForms prob ≡ [] → (g : Assignment) → ¬ Satisfies prob g
-  no-forms e g h = gone (subst (Some (SatisfiesBranch prob g)) e (solutions g .0 h))
-    where
-      gone : Some (SatisfiesBranch prob g) [] → ⊥
-      gone s = elim s [ ]
-
   -- ---- the model
 
   high : (i j : ℕ) → i < K → getD (prob .constants) i (pos 0) ≡ pos (32001 + j) → ⊥
@@ -151,10 +145,4 @@ module _ (prob : Problem) (acc : Valid prob) where
       )
     where
       Idles : Constraint → Type 0
-      Idles l = Each (λ (p : Term × Move). Rattle.calculus.specs.Relations.applies (known b) (p .1) ≡ false) (Rattle.calculus.specs.Search.propagations (rootsOf N b) b l) × Each (λ (p : Term × Move). Rattle.calculus.specs.Relations.applies (known b) (p .1) ≡ false) (Rattle.calculus.specs.Search.splits (rootsOf N b) b l)
-
-  model-satisfies : (b : Branch) → Full N Q M (prob .constraints) (constraints-in prob acc) b → SatisfiesBranch prob (branchModel prob b) b
-  model-satisfies b F = ((branchNumber prob b), model-both b F .0, model-both b F .1)
-
-  pub forms-model : Each (λ b. SatisfiesBranch prob (branchModel prob b) b) (problemForms prob)
-  forms-model = Each-imp (Full N Q M (prob .constraints) (constraints-in prob acc)) (λ b. SatisfiesBranch prob (branchModel prob b) b) (problemForms prob) model-satisfies forms-full
+      Idles l = Each (λ (p : Term × Move). applies (known b) (p .1) ≡ false) (propagations (rootsOf N b) b l) × Each (λ (p : Term × Move). applies (known b) (p .1) ≡ false) (splits (rootsOf N b) b l)

@@ -32,7 +32,7 @@ use Rattle.calculus.proofs.ConstraintLaws.{constraints-in}
 use Rattle.calculus.proofs.Records.{record-length}
 use Rattle.calculus.proofs.ReadValid.{read-valid}
 
-some-each : (P : Branch → Type 0) (c : Branch) (cs : List Branch) → Each P cs → Some (λ x. x ≡ c) cs → P c
+pub some-each : (P : Branch → Type 0) (c : Branch) (cs : List Branch) → Each P cs → Some (λ x. x ≡ c) cs → P c
 some-each P c cs e (here {x = b} q) = subst P q (e .0)
 some-each P c cs e (there {xs = ds} s) = some-each P c ds (e .1) s
 

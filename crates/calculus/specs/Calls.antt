@@ -80,18 +80,27 @@ check bytes assignment = found (do
 abbrev pub pack : (verdict number steps forms : ℕ) → ℕ
 pack verdict number steps forms = verdict + 256 * number + 65536 * steps + 4294967296 * forms
 
--- 0 REFUSED, 1 FORMS, 2 FALSE, 3 SPENT, 4 NO ROOM, 5 HOLDS, 6 FAILS
+-- the number of each case: 0 REFUSED, 1 FORMS, 2 FALSE, 3 SPENT, 4 NO ROOM, 5 HOLDS, 6 FAILS
 abbrev pub verdictNumber : Verdict → ℕ
 verdictNumber FORMS = 1
 verdictNumber FALSE = 2
 verdictNumber SPENT = 3
 verdictNumber NOROOM = 4
 
+abbrev pub answerNumber : Answer → ℕ
+answerNumber (refusal n) = 0
+answerNumber (ended v steps forms) = verdictNumber v
+
+abbrev pub checkedNumber : Checked → ℕ
+checkedNumber (declined n) = 0
+checkedNumber HOLDS = 5
+checkedNumber (FAILS i) = 6
+
 unfoldable pub answerWord : Answer → ℕ
-answerWord (refusal n) = pack 0 n 0 0
-answerWord (ended v steps forms) = pack (verdictNumber v) 0 steps forms
+answerWord (refusal n) = pack (answerNumber (refusal n)) n 0 0
+answerWord (ended v steps forms) = pack (answerNumber (ended v steps forms)) 0 steps forms
 
 unfoldable pub checkWord : Checked → ℕ
-checkWord (declined n) = pack 0 n 0 0
-checkWord HOLDS = pack 5 0 0 0
-checkWord (FAILS i) = pack 6 i 0 0
+checkWord (declined n) = pack (checkedNumber (declined n)) n 0 0
+checkWord HOLDS = pack (checkedNumber HOLDS) 0 0 0
+checkWord (FAILS i) = pack (checkedNumber (FAILS i)) i 0 0

@@ -9,16 +9,16 @@ use lib.ListN.{length, getD, take, drop}
 use lib.IntN.{ℤ, pos}
 use Rattle.calculus.specs.Lists.{Each, Some, picked, bit}
 use Rattle.calculus.specs.Terms.{Term, SetVar, term, setVar}
-use Rattle.calculus.specs.Meaning.{Constraint, member, Holds}
+use Rattle.calculus.specs.Meaning.{Constraint, member, _∈_, Holds}
 use Rattle.calculus.specs.Problem.{Problem, constantCount, termCount, setCount, constantTerms, Assignment, values, Satisfies}
 use Rattle.calculus.specs.Encoding.{Bytes, Written, Handed, WrittenAssignment}
 use Rattle.calculus.specs.Reading.{Parsed, parsed, refused, read}
 use Rattle.calculus.specs.Branch.{Branch, start, rootAt, Fact, known, assert, assertAll}
-use Rattle.calculus.specs.Search.{Next, solved, step}
-use Rattle.calculus.specs.Forms.{listedForms, Agrees, SatisfiesForm, modelNumber, model}
+use Rattle.calculus.specs.Search.{distinct, Next, solved, step}
+use Rattle.calculus.specs.Forms.{recordOf, listedForms, Agrees, SatisfiesForm, modelNumber, model}
 use Rattle.calculus.specs.Check.{readAssignment, assignmentOf}
-use Rattle.calculus.specs.Calls.{Verdict, FORMS, FALSE, SPENT, NOROOM, Answer, refusal, ended, asked, call, verdictNumber, answerWord, Checked, declined, HOLDS, FAILS, check, checkWord}
-use Rattle.calculus.specs.Order.{OneClass, Then, Conflicts, Ranged, Reached, Place, Before, nextOf, Enabled, Path, Progress, unbegun, Works}
+use Rattle.calculus.specs.Calls.{Verdict, FORMS, FALSE, SPENT, NOROOM, Answer, refusal, ended, asked, call, answerNumber, answerWord, Checked, declined, HOLDS, FAILS, check, checkedNumber, checkWord}
+use Rattle.calculus.specs.Order.{KnownIn, KnownOut, OneClass, Then, Conflicts, Ranged, Reached, Recorded, Once, Place, Before, nextOf, Enabled, Path, Progress, unbegun, Works}
 
 -- ---- demand 1
 
@@ -68,12 +68,12 @@ pub record Unpacks (word verdict number steps forms : ℕ) : Type 0 where
 abbrev pub Answers : Type 0
 Answers = (bytes : List ℕ) →
     ((budget : ℕ) (forms trace : List ℕ) →
-    ((n : ℕ) → call bytes budget forms trace .answer ≡ refusal n → Unpacks (answerWord (call bytes budget forms trace .answer)) 0 n 0 0)
-    × ((v : Verdict) (n c : ℕ) → call bytes budget forms trace .answer ≡ ended v n c → Unpacks (answerWord (call bytes budget forms trace .answer)) (verdictNumber v) 0 n c))
+    ((n : ℕ) → call bytes budget forms trace .answer ≡ refusal n → Unpacks (answerWord (call bytes budget forms trace .answer)) (answerNumber (refusal n)) n 0 0)
+    × ((v : Verdict) (n c : ℕ) → call bytes budget forms trace .answer ≡ ended v n c → Unpacks (answerWord (call bytes budget forms trace .answer)) (answerNumber (ended v n c)) 0 n c))
     × ((assignment : List ℕ) →
-    ((n : ℕ) → check bytes assignment ≡ declined n → Unpacks (checkWord (check bytes assignment)) 0 n 0 0)
-    × (check bytes assignment ≡ HOLDS → Unpacks (checkWord (check bytes assignment)) 5 0 0 0)
-    × ((i : ℕ) → check bytes assignment ≡ FAILS i → Unpacks (checkWord (check bytes assignment)) 6 i 0 0))
+    ((n : ℕ) → check bytes assignment ≡ declined n → Unpacks (checkWord (check bytes assignment)) (checkedNumber (declined n)) n 0 0)
+    × (check bytes assignment ≡ HOLDS → Unpacks (checkWord (check bytes assignment)) (checkedNumber HOLDS) 0 0 0)
+    × ((i : ℕ) → check bytes assignment ≡ FAILS i → Unpacks (checkWord (check bytes assignment)) (checkedNumber (FAILS i)) i 0 0))
 
 -- ---- demand 2
 
@@ -101,6 +101,19 @@ FirstPlace = (prob : Problem) (b : Branch) →
     × (r ≡ p .rule ∷ p .constraint ∷ p .concerned .index ∷ length cs ∷ [])
     × (cs ≡ picked (assertAll (constantTerms prob) b) (p .alternatives)))
 
+-- A form's record shows each term's root and exactly what is known of its class.
+abbrev pub Records : Type 0
+Records = (n : ℕ) (b : Branch) → Recorded n b (recordOf n b)
+
+-- The classes that rule 20 merges with stand once each, in the order of their first entries.
+abbrev pub ClassesOnce : Type 0
+ClassesOnce = (es : List Term) → Once [] es (distinct es)
+
+-- At the start each term is its own class and nothing is known, and asserting leads from there to every branch of a run.
+abbrev pub Reaches : Type 0
+Reaches = ((n : ℕ) (t u : Term) (A : SetVar) → ¬ KnownIn (start n) t A × ¬ KnownOut (start n) t A × (OneClass (start n) t u → t ≡ u))
+    × ((bytes : List ℕ) (prob : Problem) → read bytes ≡ parsed prob → (d : ℕ) (b : Branch) → Path prob d b → Reached (termCount prob) (constantTerms prob) (setCount prob) b)
+
 -- Asserting a fact, merging among them, gives the branch with that fact and what it unites, or says that it conflicts; a root is the lowest of its class.
 abbrev pub Asserts : Type 0
 Asserts = (n : ℕ) (constants : List Term) (m : ℕ) → (b : Branch) → Reached n constants m b →
@@ -119,11 +132,19 @@ pub record Shape (prob : Problem) (r : List ℕ) : Type 0 where
   pub masks : (t : ℕ) → t < termCount prob → (getD r (3 * t + 1) 0 < 2 ^ setCount prob) × (getD r (3 * t + 2) 0 < 2 ^ setCount prob)
   pub clear : (t A : ℕ) → t < termCount prob → bit (getD r (3 * t + 1) 0) A ≡ true → bit (getD r (3 * t + 2) 0) A ≡ true → ⊥
 
+-- A listed record's model: a class with a constant has that value, any other 32,001 + its root, so at most 32,064; a set holds the values of the classes known to be in it.
+pub record Valued (prob : Problem) (r : List ℕ) : Type 0 where
+  pub constant : (t i : ℕ) → t < termCount prob → i < constantCount prob → getD r (3 * i) 0 ≡ getD r (3 * t) 0 → modelNumber prob r (term t) ≡ getD (prob .constants) i (pos 0)
+  pub free : (t : ℕ) → t < termCount prob → ((i : ℕ) → i < constantCount prob → ¬ (getD r (3 * i) 0 ≡ getD r (3 * t) 0)) → modelNumber prob r (term t) ≡ pos (32001 + getD r (3 * t) 0)
+  pub most : (t : ℕ) → t < termCount prob → 32001 + getD r (3 * t) 0 ≤ 32064
+  pub numbers : (i : ℕ) → model prob r .number i ≡ modelNumber prob r (term (constantCount prob + i))
+  pub members : (A : SetVar) (x : ℤ) → x ∈ model prob r .members A ↔ ((t : ℕ) × (t < termCount prob) × (bit (getD r (3 * t + 1) 0) (A .index) ≡ true) × (x ≡ modelNumber prob r (term t)))
+
 -- Every listed form's model satisfies every constraint and, with the witnesses' values, the form; in any run, however it ended.
 abbrev pub Models : Type 0
 Models = (bytes : List ℕ) (budget : ℕ) (forms trace : List ℕ) (prob : Problem) → read bytes ≡ parsed prob →
     (v : Verdict) (n c : ℕ) → call bytes budget forms trace .answer ≡ ended v n c →
-    Each (λ r. Satisfies prob (model prob r) × Agrees (termCount prob) (values prob (model prob r) (modelNumber prob r)) r × Shape prob r) (listedForms (3 * termCount prob) c (call bytes budget forms trace .forms))
+    Each (λ r. Satisfies prob (model prob r) × Agrees (termCount prob) (values prob (model prob r) (modelNumber prob r)) r × Shape prob r × Valued prob r) (listedForms (3 * termCount prob) c (call bytes budget forms trace .forms))
 
 -- FALSE is said only if no assignment satisfies the problem, FORMS only if a form is listed.
 abbrev pub Verdicts : Type 0
@@ -181,6 +202,9 @@ pub record Demands : Type 0 where
   pub follows : Follows
   pub one-way : OneWay
   pub first-place : FirstPlace
+  pub records : Records
+  pub classes-once : ClassesOnce
+  pub reaches : Reaches
   pub asserts : Asserts
   pub models : Models
   pub verdicts : Verdicts

@@ -1,12 +1,12 @@
 -- Document 01 a second time, as relations and without fuel: what asserting gives, which place is first, how a run goes, and what its paths are.
 use mathlib.Core.Path.{_≡_, refl}
-use mathlib.Core.Logic.{_⊎_, _≢_}
+use mathlib.Core.Logic.{_⊎_, _↔_, _≢_}
 use mathlib.Core.Bool.{Bool, true, false}
 use mathlib.Core.Option.{some}
 use mathlib.Core.List.{List, [], _∷_, _++_, map}
 use Prim.Native.Nat.{ℕ, zero, suc, _+_, _*_, _≤_, _<_}
 use lib.ListN.{length, getD}
-use Rattle.calculus.specs.Lists.{Each, Some}
+use Rattle.calculus.specs.Lists.{Each, Some, bit}
 use Rattle.calculus.specs.Terms.{Term, SetVar, term, setVar}
 use Rattle.calculus.specs.Relations.{equal, union, disjoint, subset, intersection, unequal}
 use Rattle.calculus.specs.Meaning.{Constraint, member, nonmember, same, different, relation, negation, exactly, interval, entries}
@@ -56,7 +56,22 @@ pub data Reached (n : ℕ) (constants : List Term) (m : ℕ) : Branch → Type 0
   begun : Reached n constants m (start n)
   asserted : {b c : Branch} (f : Fact) → Reached n constants m b → Ranged n m f → assert constants b f ≡ some c → Reached n constants m c
 
+-- ---- what a record shows
+
+-- each term's root, and exactly what is known of its class
+pub record Recorded (n : ℕ) (b : Branch) (r : List ℕ) : Type 0 where
+  pub long : length r ≡ 3 * n
+  pub roots : (t : ℕ) → t < n → getD r (3 * t) 0 ≡ rootAt b t
+  pub insides : (t : ℕ) (A : SetVar) → t < n → (bit (getD r (3 * t + 1) 0) (A .index) ≡ true) ↔ KnownIn b (term t) A
+  pub outsides : (t : ℕ) (A : SetVar) → t < n → (bit (getD r (3 * t + 2) 0) (A .index) ≡ true) ↔ KnownOut b (term t) A
+
 -- ---- where a rule applies
+
+-- Once seen es ds: ds are the terms of es that are not seen, each once, in the order in which they first stand there
+pub data Once : List Term → List Term → List Term → Type 0 where
+  none-left : {seen : List Term} → Once seen [] []
+  again : {seen es ds : List Term} {e : Term} → Some (λ x. x ≡ e) seen → Once seen es ds → Once seen (e ∷ es) ds
+  anew : {seen es ds : List Term} {e : Term} → ¬ Some (λ x. x ≡ e) seen → Once (e ∷ seen) es ds → Once seen (e ∷ es) (e ∷ ds)
 
 -- Propagation rules (phase 0) go before splits (phase 1); within either, constraints in order, then rule numbers upward, then positions: roots upward, for rule 19 entries in order.
 pub record Place : Type 0 where
