@@ -7,3 +7,4 @@ pub mod Refusals
 pub mod Limits
 pub mod Order
 pub mod Assignments
+pub mod AnswerWords
