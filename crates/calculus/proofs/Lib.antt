@@ -35,6 +35,10 @@ pub mod Sections
 pub mod ReadValid
 pub mod ReadsWritten
 pub mod Refuses
+pub mod QuestionsAsked
+pub mod QuestionsOperands
+pub mod QuestionsOfConstraint
+pub mod Questions
 pub mod LogEvents
 pub mod WorkOrder
 pub mod CallLaws

@@ -1,6 +1,7 @@
 -- The demands, all of them.
 use Rattle.calculus.specs.Demands.{Demands}
 use Rattle.calculus.proofs.ReadsWritten.{reads}
+use Rattle.calculus.proofs.Questions.{questions}
 use Rattle.calculus.proofs.Refuses.{refuses}
 use Rattle.calculus.proofs.CallLaws.{asks, kept, follows, stops, same-solutions}
 use Rattle.calculus.proofs.ByteLaws.{bytewise}
@@ -17,6 +18,7 @@ use Rattle.calculus.proofs.Checking.{checks}
 pub demands : Demands
 demands = record {
   reads = reads;
+  questions = questions;
   refuses = refuses;
   asks = asks;
   kept = kept;

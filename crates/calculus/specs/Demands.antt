@@ -13,6 +13,7 @@ use Rattle.calculus.specs.Meaning.{Constraint, member, _∈_, Holds}
 use Rattle.calculus.specs.Problem.{Problem, constantCount, termCount, setCount, constantTerms, Assignment, values, Satisfies}
 use Rattle.calculus.specs.Encoding.{Bytes, Written, Handed, WrittenAssignment}
 use Rattle.calculus.specs.Reading.{Parsed, parsed, refused, read}
+use Rattle.calculus.specs.Questions.{Questions}
 use Rattle.calculus.specs.Branch.{Branch, start, rootAt, Fact, known, assert, assertAll}
 use Rattle.calculus.specs.Search.{distinct, Next, solved, step}
 use Rattle.calculus.specs.Forms.{recordOf, listedForms, Agrees, SatisfiesForm, modelNumber, model}
@@ -26,7 +27,7 @@ use Rattle.calculus.specs.Order.{KnownIn, KnownOut, OneClass, Then, Conf
 abbrev pub Reads : Type 0
 Reads = (bytes : List ℕ) → Bytes bytes → (prob : Problem) → (read bytes ≡ parsed prob) ↔ Written bytes prob
 
--- Refusals that need no second reading of the questions: 1, bytes that are missing, bytes left over; no number but document 01's. (3 to 9 and 11: by the table of examples, each number and each pair of neighbouring questions that can both be answered "no".)
+-- A problem is refused with the number of the first question that is answered "no" (specs/Questions tells the questions without the reader). Some of that in few words: 1 is for more than 4,096 bytes, 2 for bytes that are missing, 10 for bytes left over, and there is no number but document 01's.
 abbrev pub Refuses : Type 0
 Refuses = (bytes : List ℕ) →
     ((read bytes ≡ refused 1) ↔ (4096 < length bytes))
@@ -194,6 +195,7 @@ Checks = (bytes : List ℕ) (assignment : List ℕ) →
 -- ---- all of it
 pub record Demands : Type 0 where
   pub reads : Reads
+  pub questions : Questions
   pub refuses : Refuses
   pub asks : Asks
   pub kept : Kept

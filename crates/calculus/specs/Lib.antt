@@ -5,6 +5,7 @@ pub mod Meaning
 pub mod Problem
 pub mod Encoding
 pub mod Reading
+pub mod Questions
 pub mod Branch
 pub mod Search
 pub mod Log
