@@ -1,0 +1,28 @@
+use mathlib.Core.Path.{_∙_}
+use borrow.Author.Needs.{needs}
+use Rattle.branch.proofs.Roots.{root-range}
+use Rattle.branch.proofs.Answers.{in-known}
+use Rattle.branch.proofs.Branch.is_in.Statement.{statement}
+use Rattle.branch.proofs.Branch.is_in.Tie as tie
+
+root-requires : tie.Need-root-requires
+root-requires c κs = search needs
+
+cast-i : tie.Need-cast-i
+cast-i c = search needs
+
+array-read-has : tie.Need-array-read-has
+array-read-has c =
+    let s = c .before .before .before in
+    root-range _ (s .pre .2) _ _ _ (s .pre .0) (c .before .before .root .ensures)
+
+has-requires : tie.Need-has-requires
+has-requires c κs = search needs
+
+returns : tie.Need-returns
+returns c =
+    let s = c .before .before .before .before in
+    c .has .ensures ∙ in-known (s .args .self) _ _ (s .args .a .0) (c .before .before .before .root .ensures)
+
+pub is-in-spec : {M : Type 1} → statement M
+is-in-spec = tie.close (tie.spec root-requires cast-i array-read-has has-requires returns)

@@ -1,0 +1,5 @@
+pub mod Masks
+pub mod Counting
+pub mod Roots
+pub mod Answers
+pub mod Laws
