@@ -1,0 +1,282 @@
+-- The laws of what is read through the table of an accepted problem. Assumes nothing.
+use mathlib.Core.Path.{_≡_, refl, sym, ap, ap₂, _∙_, subst}
+use mathlib.Core.List.{List, [], _∷_, _++_, map, map-map, append-nil, append-assoc}
+use Prim.Native.Nat.{ℕ, zero, suc, _+_, _*_, _-_, _<_, _≤_}
+use native.Mathlib.Omega.{arith}
+use native.Mathlib.Decide.{decLt}
+use native.Mathlib.Nat.{le-of-suc-le-suc}
+use lib.ListN.{length, getD, take, drop, replicate, length-append, length-drop, length-map, getD-replicate, List·getD-append, List·getD-map, List·getD-eq-default}
+use lib.Seq.{drop-at, take-at, drop-drop, drop-append-seam, getD-drop, getD-append-add}
+use lib.IntN.{ℤ, pos}
+use Rattle.calculus.specs.Lists.{gather}
+use Rattle.calculus.specs.Terms.{Term, SetVar, term, setVar}
+use Rattle.calculus.specs.Relations.{Negation, equal, union, disjoint, subset, intersection, unequal}
+use Rattle.calculus.specs.Meaning.{Constraint, member, nonmember, same, different, relation, negation, exactly, interval}
+use Rattle.calculus.specs.Problem.{Problem, nameable, termCount, uses, Tied, Numbered}
+use Rattle.calculus.specs.Encoding.{encodeConstraint}
+use Rattle.calculus.specs.Reading.{Parsed, parsed, refused, words, read}
+use Rattle.calculus.proofs.Words.{words-length}
+use Rattle.calculus.proofs.Parsers.{one, counted, given, answered, then}
+use Rattle.calculus.proofs.Sections.{First}
+use Rattle.calculus.proofs.ReadValid.{first-question, read-first, read-valid}
+use Rattle.calculus.proofs.Refuses.{refuses}
+use Rattle.problem.specs.declared.Table.{Table}
+use Rattle.problem.specs.Questions.{constantsOf, constantAt}
+use Rattle.problem.specs.Sections.{startsFrom, witnessesFrom, filled}
+use Rattle.problem.specs.Table.{headerLength, problemTable, tableIs, tableOf, Opened, valuesOf, constantOf, constraintsOf, noConstraint, constraintOf, kindOf, Operand, ofTerm, ofSet, ofCount, operands, operandOf, TermAt, SetAt, listed, witnessesOf, witnessOf}
+use Rattle.problem.proofs.Constants.{constant-at}
+use Rattle.problem.proofs.ConstraintSteps.{starts-length}
+
+-- ---- an opened table is that of a problem that was read
+
+pub record Read (bs : List ℕ) (tab : Table) : Type 0 where
+  pub prob : Problem
+  pub reads : read bs ≡ parsed prob
+  pub shows : tab ≡ problemTable prob
+
+pub opened : (bs : List ℕ) (tab : Table) → Opened bs tab → Read bs tab
+unfolding tableOf tableIs
+opened bs tab o = go (read bs) refl
+  where
+    go : (m : Parsed Problem) → read bs ≡ m → Read bs tab
+    go (parsed prob) q = record { prob = prob; reads = q; shows = rw q at (o .made) }
+    go (refused n) q =
+        let r = rw q at (o .made) in
+        let z : tab .refusal ≡ n = ap (λ (t : Table). t .refusal) r in
+        absurd (omega (arith, refuses bs .1 n q .0, o .accepted))
+
+-- ---- where the constraints stand
+
+header-ends : (prob : Problem) (u : List ℕ) → First prob u → drop (headerLength prob) u ≡ gather encodeConstraint (prob .constraints)
+header-ends prob u (then (one {b = k}) (then (counted {xs = ws} e₁) (answered t₃ (then (one {b = n}) (then (counted {xs = ns} e₂) (answered t₄ (then (one {b = s}) (then (counted {xs = ss} e₃) (answered t₅ (then (one {b = m}) (answered t₆ (then {a = a} {u = x} ls (answered t₁₁ given))))))))))))) =
+    let g : List ℕ = gather encodeConstraint (a .0) in
+    let front : List ℕ = (k ∷ ws) ++ ((n ∷ ns) ++ ((s ∷ ss) ++ (m ∷ []))) in
+    let l : length front ≡ 4 + 2 * length (words ws) + length ns + length ss =
+    omega (arith, length-append (k ∷ ws) ((n ∷ ns) ++ ((s ∷ ss) ++ (m ∷ []))), length-append (n ∷ ns) ((s ∷ ss) ++ (m ∷ [])), length-append (s ∷ ss) (m ∷ []), words-length k ws e₁) in
+    let j : (k ∷ ws) ++ ((n ∷ ns) ++ ((s ∷ ss) ++ (m ∷ g))) ≡ front ++ g =
+    sym (append-assoc (k ∷ ws) ((n ∷ ns) ++ ((s ∷ ss) ++ (m ∷ []))) g
+    ∙ ap (λ (y : List ℕ). (k ∷ ws) ++ y) (append-assoc (n ∷ ns) ((s ∷ ss) ++ (m ∷ [])) g ∙ ap (λ (y : List ℕ). (n ∷ ns) ++ y) (append-assoc (s ∷ ss) (m ∷ []) g))) in
+    rw (append-nil x, ls .1, j) (drop-at front g (4 + 2 * length (words ws) + length ns + length ss) l)
+
+-- ---- the constants
+
+constants-stand : (prob : Problem) (u : List ℕ) → First prob u → (1 + 2 * length (prob .constants) ≤ length u) × (constantsOf u (length (prob .constants)) ≡ prob .constants)
+unfolding constantsOf
+constants-stand prob u (then (one {b = k}) (then (counted {xs = ws} e₁) (answered t₃ (then (one {b = n}) (then (counted {xs = ns} e₂) (answered t₄ (then (one {b = s}) (then (counted {xs = ss} e₃) (answered t₅ (then (one {b = m}) (answered t₆ (then {a = a} {u = x} ls (answered t₁₁ given))))))))))))) =
+    let g : List ℕ = n ∷ (ns ++ (s ∷ (ss ++ (m ∷ (x ++ []))))) in
+    let l : length ws ≡ 2 * length (words ws) = omega (arith, words-length k ws e₁) in
+    (omega (arith, length-append ws g), ap words (take-at ws g (2 * length (words ws)) l))
+
+pub constant-read : (bs : List ℕ) (tab : Table) (t : ℕ) → Opened bs tab → t < tab .constants → (2 + 2 * t < length bs) × (constantAt bs t ≡ constantOf bs t)
+unfolding problemTable constantOf valuesOf
+constant-read bs tab t o l =
+    let r = opened bs tab o in
+    let prob : Problem = r .prob in
+    let q = first-question bs prob (r .reads) in
+    let k : tab .constants ≡ length (prob .constants) = ap (λ (x : Table). x .constants) (r .shows) in
+    let s = constants-stand prob bs (read-first bs prob (q .1)) in
+    (omega (arith, s .0), rw (r .reads) (sym (constant-at bs (length (prob .constants)) t (s .0) (omega arith)) ∙ ap (λ (cs : List ℤ). getD cs t (pos 0)) (s .1)))
+
+-- ---- where each constraint stands
+
+-- constraint i stands where its offset says
+stands-at : (bs : List ℕ) (ls : List Constraint) (at i : ℕ) → drop at bs ≡ gather encodeConstraint ls → i < length ls
+    → drop (getD (startsFrom at ls) i 0) bs ≡ encodeConstraint (getD ls i noConstraint) ++ gather encodeConstraint (drop (suc i) ls)
+unfolding startsFrom
+stands-at bs [] at i e l = absurd (omega arith)
+stands-at bs (x ∷ ls) at zero e l = e
+stands-at bs (x ∷ ls) at (suc i) e l =
+    stands-at bs ls (at + length (encodeConstraint x)) i
+    (sym (drop-drop (length (encodeConstraint x)) at bs) ∙ ap (drop (length (encodeConstraint x))) e ∙ drop-append-seam (encodeConstraint x) (gather encodeConstraint ls))
+    (le-of-suc-le-suc l)
+
+filled-at : (xs : List ℕ) (i : ℕ) → i < length xs → getD (filled xs) i 0 ≡ getD xs i 0
+filled-at xs i l = List·getD-append xs (replicate (48 - length xs) 0) 0 i l
+
+pub record Placed (bs : List ℕ) (tab : Table) (i : ℕ) : Type 0 where
+  pub small : i < 48
+  pub short : length bs ≤ 4096
+  pub low : getD (tab .offsets) i 0 < length bs
+  pub rest : List ℕ
+  pub here : drop (getD (tab .offsets) i 0) bs ≡ encodeConstraint (constraintOf bs i) ++ rest
+
+-- ---- a constraint's bytes: its kind, and then its operands
+
+abbrev byteOf : Operand → ℕ
+byteOf (ofTerm t) = t .index
+byteOf (ofSet A) = A .index
+byteOf (ofCount n) = n
+
+encoding : (l : Constraint) → encodeConstraint l ≡ kindOf l ∷ map byteOf (operands l)
+encoding (member t A) = refl
+encoding (nonmember t A) = refl
+encoding (same t u) = refl
+encoding (different t u) = refl
+encoding (relation equal A B C) = refl
+encoding (relation union A B C) = refl
+encoding (relation disjoint A B C) = refl
+encoding (relation subset A B C) = refl
+encoding (relation intersection A B C) = refl
+encoding (negation unequal A B C w) = refl
+encoding (exactly A es) = ap (λ (v : List ℕ). 11 ∷ A .index ∷ length es ∷ v) (sym (map-map byteOf ofTerm es))
+encoding (interval A i j) = refl
+
+pub placed : (bs : List ℕ) (tab : Table) (i : ℕ) → Opened bs tab → i < tab .constraints → Placed bs tab i
+unfolding problemTable constraintOf constraintsOf
+placed bs tab i o l =
+    let r = opened bs tab o in
+    let prob : Problem = r .prob in
+    let q = first-question bs prob (r .reads) in
+    let v = read-valid bs prob (r .reads) in
+    let n : tab .constraints ≡ length (prob .constraints) = ap (λ (t : Table). t .constraints) (r .shows) in
+    let li : i < length (prob .constraints) = omega arith in
+    let s : List ℕ = startsFrom (headerLength prob) (prob .constraints) in
+    let a : getD (tab .offsets) i 0 ≡ getD s i 0 = ap (λ (t : Table). getD (t .offsets) i 0) (r .shows) ∙ filled-at s i (omega (arith, starts-length (headerLength prob) (prob .constraints))) in
+    let c : constraintOf bs i ≡ getD (prob .constraints) i noConstraint = rw (r .reads) in
+    let more : List ℕ = gather encodeConstraint (drop (suc i) (prob .constraints)) in
+    let h : drop (getD (tab .offsets) i 0) bs ≡ encodeConstraint (constraintOf bs i) ++ more =
+    ap (λ (x : ℕ). drop x bs) a ∙ stands-at bs (prob .constraints) (headerLength prob) i (header-ends prob bs (read-first bs prob (q .1))) li ∙ ap (λ (x : Constraint). encodeConstraint x ++ more) (sym c) in
+    let d : length bs - getD (tab .offsets) i 0 ≡ length (encodeConstraint (constraintOf bs i)) + length more = sym (length-drop (getD (tab .offsets) i 0) bs) ∙ ap length h ∙ length-append (encodeConstraint (constraintOf bs i)) more in
+    let p : length (encodeConstraint (constraintOf bs i)) ≡ suc (length (map byteOf (operands (constraintOf bs i)))) = ap length (encoding (constraintOf bs i)) in
+    record { small = omega (arith, v .few-constraints); short = q .0; low = omega arith; rest = more; here = h }
+
+-- ---- what is read
+
+module _ (bs : List ℕ) (tab : Table) (i : ℕ) (h : Placed bs tab i) where
+  abbrev at : ℕ
+  at = getD (tab .offsets) i 0
+
+  abbrev this : Constraint
+  this = constraintOf bs i
+
+  byte-there : (j : ℕ) → j < length (encodeConstraint this) → (at + j < length bs) × (getD bs (at + j) 0 ≡ getD (encodeConstraint this) j 0)
+  byte-there j l =
+      let d : length bs - at ≡ length (encodeConstraint this) + length (h .rest) = sym (length-drop at bs) ∙ ap length (h .here) ∙ length-append (encodeConstraint this) (h .rest) in
+      (omega arith, sym (getD-drop at bs j 0) ∙ ap (λ (xs : List ℕ). getD xs j 0) (h .here) ∙ List·getD-append (encodeConstraint this) (h .rest) 0 j l)
+
+  pub kind-read : getD bs at 0 ≡ kindOf this
+  kind-read =
+      let z : at + 0 ≡ at = omega arith in
+      let l : length (encodeConstraint this) ≡ suc (length (map byteOf (operands this))) = ap length (encoding this) in
+      ap (λ (x : ℕ). getD bs x 0) (sym z) ∙ byte-there 0 (omega arith) .1 ∙ ap (λ (xs : List ℕ). getD xs 0 0) (encoding this)
+
+  -- operand p is one of those that are written
+  there : (p : ℕ) → (operandOf this p ≡ ofCount 0 → ⊥) → p < length (operands this)
+  there p n = go (decLt p (length (operands this)))
+    where
+      go : Dec (p < length (operands this)) → p < length (operands this)
+      go (yes l) = l
+      go (no l) = let f : length (operands this) ≤ p = omega arith in absurd (n (List·getD-eq-default (operands this) (ofCount 0) f))
+
+  operand-read : (p : ℕ) → p < length (operands this) → (at + 1 + p < length bs) × (getD bs (at + 1 + p) 0 ≡ byteOf (operandOf this p))
+  operand-read p l =
+      let z : at + 1 + p ≡ at + suc p = omega arith in
+      let n : length (encodeConstraint this) ≡ suc (length (map byteOf (operands this))) = ap length (encoding this) in
+      let b = byte-there (suc p) (omega (arith, length-map (operands this) byteOf)) in
+      (omega (arith, b .0), ap (λ (x : ℕ). getD bs x 0) z ∙ b .1 ∙ ap (λ (xs : List ℕ). getD xs (suc p) 0) (encoding this) ∙ List·getD-map byteOf (operands this) p (ofCount 0))
+
+  pub term-read : (p : ℕ) → TermAt this p → (at + 1 + p < length bs) × (operandOf this p ≡ ofTerm (term (getD bs (at + 1 + p) 0)))
+  term-read p t =
+      let r = operand-read p (there p (λ e. let q = sym (t .is) ∙ e in let y : _≡_ {A = ℕ} 0 1 = cc in omega arith)) in
+      (r .0, t .is ∙ ap (λ (x : ℕ). ofTerm (term x)) (sym (r .1 ∙ ap byteOf (t .is))))
+
+  pub set-read : (p : ℕ) → SetAt this p → (at + 1 + p < length bs) × (operandOf this p ≡ ofSet (setVar (getD bs (at + 1 + p) 0)))
+  set-read p t =
+      let r = operand-read p (there p (λ e. let q = sym (t .is) ∙ e in let y : _≡_ {A = ℕ} 0 1 = cc in omega arith)) in
+      (r .0, t .is ∙ ap (λ (x : ℕ). ofSet (setVar x)) (sym (r .1 ∙ ap byteOf (t .is))))
+
+-- ---- the entries of a list constraint
+
+term-index : (es : List Term) → map term (map (λ (e : Term). e .index) es) ≡ es
+term-index [] = refl
+term-index (e ∷ es) = ap (λ (l : List Term). e ∷ l) (term-index es)
+
+-- the bytes after a list's set are its count and its entries
+list-bytes : (l : Constraint) → kindOf l ≡ 11 → (A : ℕ) × (encodeConstraint l ≡ 11 ∷ A ∷ length (listed l) ∷ map (λ (e : Term). e .index) (listed l))
+list-bytes (member t A) e = absurd (omega arith)
+list-bytes (nonmember t A) e = absurd (omega arith)
+list-bytes (same t u) e = absurd (omega arith)
+list-bytes (different t u) e = absurd (omega arith)
+list-bytes (relation equal A B C) e = absurd (omega arith)
+list-bytes (relation union A B C) e = absurd (omega arith)
+list-bytes (relation disjoint A B C) e = absurd (omega arith)
+list-bytes (relation subset A B C) e = absurd (omega arith)
+list-bytes (relation intersection A B C) e = absurd (omega arith)
+list-bytes (negation unequal A B C w) e = absurd (omega arith)
+list-bytes (exactly A es) e = (A .index, refl)
+list-bytes (interval A i j) e = absurd (omega arith)
+
+module _ (bs : List ℕ) (tab : Table) (i : ℕ) (h : Placed bs tab i) (k : kindOf (constraintOf bs i) ≡ 11) where
+  abbrev from : ℕ
+  from = getD (tab .offsets) i 0
+
+  abbrev es : List ℕ
+  es = map (λ (e : Term). e .index) (listed (constraintOf bs i))
+
+  from-bytes : (A : ℕ) × (drop from bs ≡ 11 ∷ A ∷ length (listed (constraintOf bs i)) ∷ (es ++ h .rest))
+  from-bytes = let b = list-bytes (constraintOf bs i) k in (b .0, h .here ∙ ap (λ (xs : List ℕ). xs ++ h .rest) (b .1))
+
+  pub list-count : getD bs (from + 2) 0 ≡ length (listed (constraintOf bs i))
+  list-count = sym (getD-drop from bs 2 0) ∙ ap (λ (xs : List ℕ). getD xs 2 0) (from-bytes .1)
+
+  pub list-fits : (from + 2 < length bs) × (from + 3 + getD bs (from + 2) 0 ≤ length bs)
+  list-fits =
+      let d : length bs - from ≡ 3 + length (es ++ h .rest) = sym (length-drop from bs) ∙ ap length (from-bytes .1) ∙ omega arith in
+      omega (arith, length-append es (h .rest), list-count, length-map (listed (constraintOf bs i)) (λ (e : Term). e .index))
+
+  pub list-read : (r : List ℕ) → r ≡ take (from + 3 + getD bs (from + 2) 0 - (from + 3)) (drop (from + 3) bs) → map term r ≡ listed (constraintOf bs i)
+  list-read r e =
+      let n : from + 3 + getD bs (from + 2) 0 - (from + 3) ≡ length (listed (constraintOf bs i)) = omega (arith, list-count) in
+      let d : drop (from + 3) bs ≡ es ++ h .rest = sym (drop-drop 3 from bs) ∙ ap (drop 3) (from-bytes .1) in
+      let m : length es ≡ length (listed (constraintOf bs i)) = length-map (listed (constraintOf bs i)) (λ (e : Term). e .index) in
+      ap (map term) (e ∙ ap₂ (λ (x : ℕ) (y : List ℕ). take x y) n d ∙ take-at es (h .rest) (length (listed (constraintOf bs i))) m) ∙ term-index (listed (constraintOf bs i))
+
+-- ---- the witnesses
+
+filled-any : (xs : List ℕ) (i : ℕ) → i < 48 → getD (filled xs) i 0 ≡ getD xs i 0
+filled-any xs i l = go (decLt i (length xs))
+  where
+    go : Dec (i < length xs) → getD (filled xs) i 0 ≡ getD xs i 0
+    go (yes h) = filled-at xs i h
+    go (no h) =
+        let f : length xs ≤ i = omega arith in
+        let z : i ≡ length xs + (i - length xs) = omega arith in
+        ap (λ (x : ℕ). getD (filled xs) x 0) z ∙ getD-append-add xs (replicate (48 - length xs) 0) (i - length xs) 0 ∙ getD-replicate (48 - length xs) (i - length xs) 0 0 (omega arith) ∙ sym (List·getD-eq-default xs 0 f)
+
+pub witness-read : (bs : List ℕ) (tab : Table) (i : ℕ) → Opened bs tab → i < 48 → term (getD (tab .witnesses) i 0) ≡ witnessOf bs i
+unfolding problemTable witnessOf witnessesOf
+witness-read bs tab i o l =
+    let r = opened bs tab o in
+    let w : List ℕ = witnessesFrom (nameable (r .prob)) (r .prob .constraints) in
+    rw (r .reads) (ap term (ap (λ (t : Table). getD (t .witnesses) i 0) (r .shows) ∙ filled-any w i l))
+
+numbered-at : (ls : List Constraint) (w last i : ℕ) → Numbered w last ls → i < length ls → Tied (getD (witnessesFrom w ls) i 0) (getD ls i noConstraint)
+unfolding witnessesFrom
+numbered-at [] w last i n l = absurd (omega arith)
+numbered-at (x ∷ ls) w last zero n l = n .0
+numbered-at (x ∷ ls) w last (suc i) n l = numbered-at ls (w + uses x) last i (n .1) (le-of-suc-le-suc l)
+
+-- of a constraint that has a witness it is that one
+pub witness-is : (bs : List ℕ) (tab : Table) (i : ℕ) → Opened bs tab → (k : Negation) (A B C : SetVar) (u : Term) → constraintOf bs i ≡ negation k A B C u → witnessOf bs i ≡ u
+unfolding constraintOf constraintsOf witnessOf witnessesOf
+witness-is bs tab i o k A B C u e =
+    let r = opened bs tab o in
+    let ls : List Constraint = r .prob .constraints in
+    let c : getD ls i noConstraint ≡ negation k A B C u = rw (r .reads) at e in
+    rw (r .reads) (ap term (sym (subst (λ (x : Constraint). Tied (getD (witnessesFrom (nameable (r .prob)) ls) i 0) x) c (numbered-at ls (nameable (r .prob)) (termCount (r .prob)) i (read-valid bs (r .prob) (r .reads) .numbered) (in-list ls c (decLt i (length ls)))))))
+  where
+    in-list : (ls : List Constraint) → getD ls i noConstraint ≡ negation k A B C u → Dec (i < length ls) → i < length ls
+    in-list ls c (yes l) = l
+    in-list ls c (no l) =
+        let f : length ls ≤ i = omega arith in
+        let q : noConstraint ≡ negation k A B C u = sym (List·getD-eq-default ls noConstraint f) ∙ c in
+        let y : _≡_ {A = ℕ} 0 1 = cc in
+        absurd (omega arith)
+
+-- the counts of an opened table
+pub opened-sizes : (bs : List ℕ) (tab : Table) → Opened bs tab → (tab .constraints ≤ 48) × (tab .sets ≤ 8) × (tab .terms ≤ 64)
+unfolding problemTable
+opened-sizes bs tab o =
+    let r = opened bs tab o in
+    let v = read-valid bs (r .prob) (r .reads) in
+    rw (r .shows) (v .few-constraints, v .few-sets, v .few-terms)

@@ -1,0 +1,10 @@
+pub mod Raised
+pub mod Constants
+pub mod Rises
+pub mod Parts
+pub mod Answers
+pub mod SectionLaws
+pub mod ConstraintSteps
+pub mod Reading
+pub mod Access
+pub mod TableExample

@@ -1,0 +1,172 @@
+// The problem's bytes: what is asked of them, where each part stands, and what stands there.
+mod questions;
+mod sections;
+
+use questions::Sizes;
+use questions::value_at;
+use sections::constants_at;
+use sections::constraints_at;
+use sections::sets_at;
+use sections::variables_at;
+use terms::SetVar;
+use terms::Term;
+ghost use mathlib.Core.Path.{_≡_};
+ghost use mathlib.Core.List.{List, map};
+ghost use Prim.Native.Nat.{ℕ, _+_, _*_, _≤_, _<_};
+ghost use lib.ListN.{length, drop};
+ghost use Rattle.calculus.specs.Terms.{term, setVar};
+ghost use Rattle.calculus.specs.Reading.{readConstraints};
+ghost use Rattle.problem.specs.Questions.{ConstantsRise, constantsOf};
+ghost use Rattle.problem.specs.Sections.{variablesOf, setsOf};
+ghost use Rattle.problem.specs.Table.{tableOf, tableIs, refusedTable, Opened, constantOf, kindOf, constraintOf, TermAt, SetAt, operandOf, ofTerm, ofSet, listed, witnessOf};
+
+// A problem's table (specs/Table.antt says what it holds). Nothing else is kept: all is read from the problem's bytes.
+pub struct Table {
+    pub refusal: u8,
+    pub constants: u8,
+    pub variables: u8,
+    pub sets: u8,
+    pub constraints: u8,
+    pub terms: u8,
+    pub offsets: [u16; 48],
+    pub witnesses: [u8; 48],
+}
+
+// Refused by question n.
+fn refused(n: u8) -> Table
+    ensures { λ r. ⌜ r ≡ refusedTable n ⌝ }
+{
+    Table {
+        refusal: n,
+        constants: 0,
+        variables: 0,
+        sets: 0,
+        constraints: 0,
+        terms: 0,
+        offsets: [0u16; 48],
+        witnesses: [0u8; 48],
+    }
+}
+
+// Questions 6 to 11, of what stands after k constants, n variables and s sets.
+fn table_at(problem: &[u8], at: usize, k: usize, n: usize, s: usize) -> Table
+    requires { ⌜ (at ≡ 3 + 2 * k + n + s) × (at ≤ length (now problem)) × (length (now problem) ≤ 4096) × (k < 256) × (n < 256) × (s ≤ 8) × ConstantsRise (now problem) k ⌝ }
+    ensures { λ r. ⌜ r ≡ tableIs (readConstraints (constantsOf (now (problem .entry)) k) (variablesOf (now (problem .entry)) k n) (setsOf (now (problem .entry)) k n s) (drop at (now (problem .entry)))) ⌝ }
+{
+    if problem.len() <= at {
+        return refused(2);
+    }
+    let m = problem[at];
+    if 48 < m {
+        return refused(6);
+    }
+    let sizes = Sizes {
+        constants: k,
+        nameable: k + n,
+        sets: s,
+    };
+    let tables = constraints_at(problem, at + 1, m as usize, sizes);
+    if tables.refusal != 0 {
+        return refused(tables.refusal);
+    }
+    if tables.next < problem.len() {
+        return refused(10);
+    }
+    if 64 < tables.terms {
+        return refused(11);
+    }
+    let offsets = tables.offsets;
+    let witnesses = tables.witnesses;
+    Table {
+        refusal: 0,
+        constants: k as u8,
+        variables: n as u8,
+        sets: s as u8,
+        constraints: m,
+        terms: tables.terms as u8,
+        offsets: offsets,
+        witnesses: witnesses,
+    }
+}
+
+// Questions 1 to 11, in their order; the first "no" refuses.
+pub fn read(problem: &[u8]) -> Table
+    ensures { λ r. ⌜ r ≡ tableOf (now (problem .entry)) ⌝ }
+{
+    if 4096 < problem.len() {
+        return refused(1);
+    }
+    let constants = constants_at(problem);
+    if constants.refusal != 0 {
+        return refused(constants.refusal);
+    }
+    let variables = variables_at(problem, constants.next);
+    if variables.refusal != 0 {
+        return refused(variables.refusal);
+    }
+    let sets = sets_at(problem, variables.next);
+    if sets.refusal != 0 {
+        return refused(sets.refusal);
+    }
+    table_at(
+        problem,
+        sets.next,
+        constants.count,
+        variables.count,
+        sets.count,
+    )
+}
+
+// The value of constant t.
+pub fn constant(problem: &[u8], tab: Table, t: Term) -> i16
+    requires { ⌜ Opened (now problem) tab × (t .0 < tab .constants) ⌝ }
+    ensures { λ r. ⌜ r ≡ constantOf (now (problem .entry)) (t .0) ⌝ }
+{
+    value_at(problem, t)
+}
+
+// The kind of constraint i, 1 to 12.
+pub fn kind(problem: &[u8], tab: Table, i: usize) -> u8
+    requires { ⌜ Opened (now problem) tab × (i < tab .constraints) ⌝ }
+    ensures { λ r. ⌜ r ≡ kindOf (constraintOf (now (problem .entry)) i) ⌝ }
+{
+    let here = tab.offsets[i] as usize;
+    problem[here]
+}
+
+// Operand p of constraint i, where that is a term.
+pub fn term(problem: &[u8], tab: Table, i: usize, p: usize) -> Term
+    requires { ⌜ Opened (now problem) tab × (i < tab .constraints) × TermAt (constraintOf (now problem) i) p ⌝ }
+    ensures { λ r. ⌜ operandOf (constraintOf (now (problem .entry)) i) p ≡ ofTerm (term (r .0)) ⌝ }
+{
+    let at = tab.offsets[i] as usize;
+    Term(problem[at + 1 + p])
+}
+
+// Operand p of constraint i, where that is a set variable.
+pub fn set(problem: &[u8], tab: Table, i: usize, p: usize) -> SetVar
+    requires { ⌜ Opened (now problem) tab × (i < tab .constraints) × SetAt (constraintOf (now problem) i) p ⌝ }
+    ensures { λ r. ⌜ operandOf (constraintOf (now (problem .entry)) i) p ≡ ofSet (setVar (r .0)) ⌝ }
+{
+    let from = tab.offsets[i] as usize;
+    SetVar(problem[from + 1 + p])
+}
+
+// The witness of constraint i; where it has none, the next one.
+pub fn witness(tab: Table, i: usize) -> Term
+    requires { ⌜ i < 48 ⌝ }
+    ensures { λ r. ⌜ ((bs : List ℕ) → Opened bs tab → term (r .0) ≡ witnessOf bs i) ⌝ }
+{
+    Term(tab.witnesses[i])
+}
+
+// The entries of a list constraint: the part of the problem that has them.
+pub fn entries<'a>(problem: &'a [u8], tab: Table, i: usize) -> &'a [u8]
+    requires { ⌜ Opened (now problem) tab × (i < tab .constraints) × (kindOf (constraintOf (now problem) i) ≡ 11) ⌝ }
+    ensures { λ r. ⌜ map term (now r) ≡ listed (constraintOf (now (problem .entry)) i) ⌝ }
+{
+    let start = tab.offsets[i] as usize;
+    let a = start + 3;
+    let e = a + problem[start + 2] as usize;
+    &problem[a..e]
+}
