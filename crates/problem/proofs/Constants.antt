@@ -6,7 +6,7 @@ use Prim.Native.Nat.{ℕ, zero, suc, _+_, _*_, _-_, _%_, _<_, _≤_}
 use native.Mathlib.Omega.{arith}
 use native.Mathlib.Decide.{ℕ-discrete}
 use native.Mathlib.Nat.{le-of-suc-le-suc}
-use lib.ListN.{length, getD, take, drop}
+use lib.ListN.{length, getD, take, drop, length-take, length-drop}
 use lib.Seq.{drop-cons}
 use lib.Dec.{eqb, ltb}
 use lib.IntN.{ℤ, pos, sucℤ}
@@ -16,6 +16,7 @@ use mir.Val.{Fits}
 use borrow.Author.Tests.{eq-eqb, ne-eqb, eqb-true, ltb-true}
 use Rattle.calculus.specs.Lists.{all, upFrom}
 use Rattle.calculus.specs.Reading.{words, eqZ, gapless}
+use Rattle.calculus.proofs.Words.{words-length}
 use Rattle.calculus.proofs.Integers.{passed}
 use Rattle.problem.specs.Questions.{ConstantsRise, raisedAt, wordAt, constantAt, constantsOf}
 use Rattle.problem.proofs.Raised.{raise, raised-next, raised-order}
@@ -35,11 +36,7 @@ raised-word bs p = let e : suc (1 + 2 * p) ≡ 2 + 2 * p = omega arith in ap (λ
 -- ---- n numbers from s upward
 
 module _ {A : Type 0} (f : ℕ → A) where
-  pub up-length : (s n : ℕ) → length (map f (upFrom s n)) ≡ n
-  up-length s zero = refl
-  up-length s (suc n) = ap suc (up-length (suc s) n)
-
-  pub up-at : (s n p : ℕ) (d : A) → p < n → getD (map f (upFrom s n)) p d ≡ f (s + p)
+  up-at : (s n p : ℕ) (d : A) → p < n → getD (map f (upFrom s n)) p d ≡ f (s + p)
   up-at s zero p d l = absurd (omega arith)
   up-at s (suc n) zero d l = let e : s ≡ s + 0 = omega arith in ap f e
   up-at s (suc n) (suc p) d l = let e : suc s + p ≡ s + suc p = omega arith in up-at (suc s) n p d (le-of-suc-le-suc l) ∙ ap f e
@@ -73,7 +70,8 @@ module _ (bs : List ℕ) where
   constants-are k l = from k 0 (omega arith)
 
   pub constants-length : (k : ℕ) → 1 + 2 * k ≤ length bs → length (constantsOf bs k) ≡ k
-  constants-length k l = ap length (constants-are k l) ∙ up-length (constantAt bs) 0 k
+  unfolding constantsOf
+  constants-length k l = words-length k (take (2 * k) (drop 1 bs)) (omega (arith, length-take (2 * k) (drop 1 bs), length-drop 1 bs))
 
   pub constant-at : (k p : ℕ) → 1 + 2 * k ≤ length bs → p < k → getD (constantsOf bs k) p (pos 0) ≡ constantAt bs p
   constant-at k p l h = ap (λ (cs : List ℤ). getD cs p (pos 0)) (constants-are k l) ∙ up-at (constantAt bs) 0 k p (pos 0) h ∙ (let e : 0 + p ≡ p = omega arith in ap (constantAt bs) e)

@@ -285,9 +285,3 @@ module _ (cs : List ℤ) (N S : ℕ) (bs : List ℕ) where
       let n : m - i ≡ 0 = omega arith in
       let e : length bs - length (drop at bs) ≡ at = omega (arith, length-drop at bs) in
       rw n (ap (λ (x : ℕ). record { refusal = 0; next = x; terms = w; offsets = offs; witnesses = wits }) e)
-
--- ---- the constants
-
-pub constants-length : (bs : List ℕ) (k : ℕ) → 1 + 2 * k ≤ length bs → length (constantsOf bs k) ≡ k
-unfolding constantsOf
-constants-length bs k l = words-length k (take (2 * k) (drop 1 bs)) (omega (arith, length-take (2 * k) (drop 1 bs), length-drop 1 bs))

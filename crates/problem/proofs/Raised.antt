@@ -40,6 +40,10 @@ same-leb a b c d f g = same-test (leb a b) (leb c d) (λ e. le-leb c d (f (leb-t
 same-eqb : (a b c d : ℕ) → (a ≡ b → c ≡ d) → (c ≡ d → a ≡ b) → eqb a b ≡ eqb c d
 same-eqb a b c d f g = same-test (eqb a b) (eqb c d) (λ e. eq-eqb c d (f (eqb-true a b e))) (λ e. eq-eqb a b (g (eqb-true c d e)))
 
+pub and-true : (a b : Bool) → b ≡ true → (a && b) ≡ a
+and-true true b e = e
+and-true false b e = refl
+
 -- ---- order, range and the next number
 
 pub raised-order : (m n : ℕ) → m < 65536 → n < 65536 → ltb (raise m) (raise n) ≡ ltZ (signed m) (signed n)
@@ -54,10 +58,6 @@ raised-order m n lm ln = go (half m lm) (half n ln)
 pub raised-range : (n : ℕ) → n < 65536 → (leb 768 (raise n) && leb (raise n) 64768) ≡ (leZ (negsuc 31999) (signed n) && leZ (signed n) (pos 32000))
 raised-range n l = go (half n l)
   where
-    and-true : (a b : Bool) → b ≡ true → (a && b) ≡ a
-    and-true true b e = e
-    and-true false b e = refl
-
     go : Half n → (leb 768 (raise n) && leb (raise n) 64768) ≡ (leZ (negsuc 31999) (signed n) && leZ (signed n) (pos 32000))
     go (low a s r) = rw (s, r, le-leb 768 (n + 32768) (omega arith)) (same-leb (n + 32768) 64768 n 32000 (λ h. omega arith) (λ h. omega arith))
     go (high a s r) =

@@ -23,7 +23,7 @@ use Rattle.problem.specs.Questions.{ConstantsRise, constantsOf}
 use Rattle.problem.specs.Sections.{counted, section, constantsTest, variablesTest, setsTest, constantsSection, variablesSection, setsSection, sectionOf, variablesOf, setsOf, startsFrom, witnessesFrom, filled, tablesOf}
 use Rattle.problem.specs.Table.{refusedTable, problemTable, tableIs, tableOf}
 use Rattle.problem.proofs.SectionLaws.{Stands, byte-none, byte-at, section-stops, section-goes}
-use Rattle.problem.proofs.ConstraintSteps.{constants-length}
+use Rattle.problem.proofs.Constants.{constants-length}
 
 -- ---- a section, and what is read after it
 

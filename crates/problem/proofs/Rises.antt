@@ -14,7 +14,7 @@ use borrow.Author.Tests.{lt-ltb, le-ltb, ltb-true, le-leb, leb-true, lt-leb}
 use Rattle.calculus.specs.Lists.{all, upFrom}
 use Rattle.calculus.specs.Reading.{ascending, inRange, letters}
 use Rattle.problem.specs.Questions.{raisedAt, wordAt, constantAt, constantsOf}
-use Rattle.problem.proofs.Raised.{raised-order, raised-range}
+use Rattle.problem.proofs.Raised.{and-true, raised-order, raised-range}
 use Rattle.problem.proofs.Constants.{AllBytes, word-fits, raised-word, constants-are, up-more, up-done}
 
 unfoldable pub rises : ℕ → ℕ → List ℕ → Bool
@@ -49,10 +49,6 @@ module _ (s : List ℕ) (i : ℕ) where
   part-done l = drop-of-length-le s l
 
 -- ---- letters
-
-and-true : (a b : Bool) → b ≡ true → (a && b) ≡ a
-and-true true b e = e
-and-true false b e = refl
 
 -- d follows from a and c
 and-known : (a b c d e f : Bool) → (a ≡ true → c ≡ true → d ≡ true) → (a && b && c && (d && e && f)) ≡ (a && b && (c && e && f))
