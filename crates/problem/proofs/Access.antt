@@ -21,10 +21,10 @@ use Rattle.calculus.proofs.Sections.{First}
 use Rattle.calculus.proofs.ReadValid.{first-question, read-first, read-valid}
 use Rattle.calculus.proofs.Refuses.{refuses}
 use Rattle.problem.specs.declared.Table.{Table}
-use Rattle.problem.specs.Questions.{constantsOf, constantAt}
+use Rattle.questions.specs.Questions.{constantsOf, constantAt}
 use Rattle.problem.specs.Sections.{startsFrom, witnessesFrom, filled}
 use Rattle.problem.specs.Table.{headerLength, problemTable, tableIs, tableOf, Opened, valuesOf, constantOf, constraintsOf, noConstraint, constraintOf, kindOf, Operand, ofTerm, ofSet, ofCount, operands, operandOf, TermAt, SetAt, listed, witnessesOf, witnessOf}
-use Rattle.problem.proofs.Constants.{constant-at}
+use Rattle.questions.proofs.Constants.{constant-at}
 use Rattle.problem.proofs.ConstraintSteps.{starts-length}
 
 -- ---- an opened table is that of a problem that was read

@@ -18,9 +18,9 @@ use Rattle.calculus.specs.Encoding.{encodeConstraint}
 use Rattle.calculus.specs.Reading.{Parsed, parsed, refused, _>>=_, ask, byte, bytes, gapless, Parser, refuse, two, three, ofList, ofInterval, kinds, constraint, constraints}
 use Rattle.calculus.proofs.Words.{words-length}
 use Rattle.calculus.proofs.ConstraintParsers.{constraint-reads, constraints-read}
-use Rattle.problem.specs.declared.questions.Parsed.{Parsed as Step}
+use Rattle.questions.specs.declared.Parsed.{Parsed as Step}
 use Rattle.problem.specs.declared.sections.Tables.{Tables}
-use Rattle.problem.specs.Questions.{constantsOf, parsedOf}
+use Rattle.questions.specs.Questions.{constantsOf, parsedOf}
 use Rattle.problem.specs.Sections.{startsFrom, witnessesFrom, filled, refusedTables, tablesOf}
 
 -- ---- the next witness's number matters only to the witness

@@ -1,8 +1,3 @@
-pub mod Raised
-pub mod Constants
-pub mod Rises
-pub mod Parts
-pub mod Answers
 pub mod SectionLaws
 pub mod ConstraintSteps
 pub mod Reading

@@ -19,11 +19,11 @@ use Rattle.calculus.proofs.ReadValid.{read-short, read-long}
 use Rattle.problem.specs.declared.Table.{Table}
 use Rattle.problem.specs.declared.sections.Section.{Section}
 use Rattle.problem.specs.declared.sections.Tables.{Tables}
-use Rattle.problem.specs.Questions.{ConstantsRise, constantsOf}
+use Rattle.questions.specs.Questions.{ConstantsRise, constantsOf}
 use Rattle.problem.specs.Sections.{counted, section, constantsTest, variablesTest, setsTest, constantsSection, variablesSection, setsSection, sectionOf, variablesOf, setsOf, startsFrom, witnessesFrom, filled, tablesOf}
 use Rattle.problem.specs.Table.{refusedTable, problemTable, tableIs, tableOf}
 use Rattle.problem.proofs.SectionLaws.{Stands, byte-none, byte-at, section-stops, section-goes}
-use Rattle.problem.proofs.Constants.{constants-length}
+use Rattle.questions.proofs.Constants.{constants-length}
 
 -- ---- a section, and what is read after it
 

@@ -10,7 +10,7 @@ use Rattle.calculus.specs.Encoding.{encodeConstraint}
 use Rattle.calculus.specs.Reading.{Parsed, parsed, refused, _>>=_, ask, byte, bytes, words, ascending, inRange, letters}
 use Rattle.problem.specs.declared.sections.Section.{Section}
 use Rattle.problem.specs.declared.sections.Tables.{Tables}
-use Rattle.problem.specs.Questions.{constantsOf}
+use Rattle.questions.specs.Questions.{constantsOf}
 
 -- ---- a section
 

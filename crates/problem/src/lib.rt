@@ -1,5 +1,4 @@
 // The problem's bytes: what is asked of them, where each part stands, and what stands there.
-mod questions;
 mod sections;
 
 use questions::Sizes;
@@ -16,7 +15,7 @@ ghost use Prim.Native.Nat.{ℕ, _+_, _*_, _≤_, _<_};
 ghost use lib.ListN.{length, drop};
 ghost use Rattle.calculus.specs.Terms.{term, setVar};
 ghost use Rattle.calculus.specs.Reading.{readConstraints};
-ghost use Rattle.problem.specs.Questions.{ConstantsRise, constantsOf};
+ghost use Rattle.questions.specs.Questions.{ConstantsRise, constantsOf};
 ghost use Rattle.problem.specs.Sections.{variablesOf, setsOf};
 ghost use Rattle.problem.specs.Table.{tableOf, tableIs, refusedTable, Opened, constantOf, kindOf, constraintOf, TermAt, SetAt, operandOf, ofTerm, ofSet, listed, witnessOf};
 

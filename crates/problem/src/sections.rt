@@ -1,13 +1,13 @@
 // The sections of a problem: each function answers the question that refuses it, or where the next section begins.
-use super::questions::Sizes;
-use super::questions::constants_ok;
-use super::questions::constraint_at;
-use super::questions::letters_ok;
+use questions::Sizes;
+use questions::constants_ok;
+use questions::constraint_at;
+use questions::letters_ok;
 ghost use mathlib.Core.Path.{_≡_};
 ghost use Prim.Native.Nat.{_+_, _*_, _≤_, _<_};
 ghost use lib.ListN.{length, drop};
 ghost use Rattle.calculus.specs.Reading.{constraints};
-ghost use Rattle.problem.specs.Questions.{ConstantsRise, constantsOf};
+ghost use Rattle.questions.specs.Questions.{ConstantsRise, constantsOf};
 ghost use Rattle.problem.specs.Sections.{counted, constantsSection, variablesSection, setsSection, sectionOf, refusedSection, refusedTables, tablesOf};
 
 // The number of the question that refuses a section, and 0 in all else; or 0, its count, and where the next one begins.

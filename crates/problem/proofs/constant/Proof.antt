@@ -2,9 +2,9 @@ use mathlib.Core.Path.{_∙_, sym, subst}
 use mir.Syntax.{w16}
 use mir.Val.{SFits}
 use mir.ValLaws.{toZ-ofZ}
-use Rattle.problem.specs.Questions.{wordAt}
-use Rattle.problem.proofs.Raised.{signed-fits}
-use Rattle.problem.proofs.Constants.{word-fits}
+use Rattle.questions.specs.Questions.{wordAt}
+use Rattle.questions.proofs.SignedWords.{signed-fits}
+use Rattle.questions.proofs.Constants.{word-fits}
 use Rattle.problem.proofs.Access.{constant-read}
 use Rattle.problem.proofs.constant.Statement.{statement}
 use Rattle.problem.proofs.constant.Tie as tie

@@ -3,7 +3,7 @@ use mathlib.Core.Path.{sym, _∙_}
 use Prim.Native.Nat.{_-_}
 use native.Mathlib.Omega.{arith}
 use Rattle.problem.specs.Sections.{constantsTest}
-use Rattle.problem.specs.Questions.{constantsOf}
+use Rattle.questions.specs.Questions.{constantsOf}
 use Rattle.problem.proofs.SectionLaws.{found, passes-on, answers-yes, answers-no}
 use Rattle.problem.proofs.sections.constants_at.Statement.{statement}
 use Rattle.problem.proofs.sections.constants_at.Tie as tie

@@ -5,8 +5,8 @@ use native.Mathlib.Omega.{arith}
 use lib.ListN.{length, drop}
 use Rattle.calculus.specs.Reading.{constraints}
 use Rattle.problem.specs.Sections.{tablesOf}
-use Rattle.problem.specs.Questions.{constantsOf}
-use Rattle.problem.proofs.Constants.{constants-length}
+use Rattle.questions.specs.Questions.{constantsOf}
+use Rattle.questions.proofs.Constants.{constants-length}
 use Rattle.problem.proofs.ConstraintSteps.{One, uses-one, one-goes, fillFrom, fill-start, fill-again, fill-stop, fill-end}
 use Rattle.problem.proofs.sections.constraints_at.Statement.{statement}
 use Rattle.problem.proofs.sections.constraints_at.Tie as tie

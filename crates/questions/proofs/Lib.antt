@@ -1,0 +1,5 @@
+pub mod SignedWords
+pub mod Constants
+pub mod Rises
+pub mod Parts
+pub mod Answers

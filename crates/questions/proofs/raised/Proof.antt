@@ -1,0 +1,60 @@
+use borrow.Author.Needs.{needs}
+use mathlib.Core.Path.{ap}
+use Prim.Native.Nat.{ℕ, _+_, _*_, _%_}
+use native.Mathlib.Omega.{arith}
+use native.Mathlib.Numerals.{add-one}
+use lib.ListN.{getD}
+use Rattle.questions.specs.Questions.{raisedAt}
+use Rattle.questions.proofs.raised.Statement.{statement}
+use Rattle.questions.proofs.raised.Tie as tie
+
+shared-slice-read-lo : tie.Need-shared-slice-read-lo
+shared-slice-read-lo c = search needs
+
+cast-lo : tie.Need-cast-lo
+cast-lo c = omega (arith, c .shared-slice-known .given (c .before .args .at))
+
+add-hi : tie.Need-add-hi
+add-hi c = search needs
+
+shared-slice-read-hi : tie.Need-shared-slice-read-hi
+shared-slice-read-hi c = search needs
+
+cast-hi : tie.Need-cast-hi
+cast-hi c = omega (arith, c .shared-slice-known2 .given (c .before .before .args .at + 1))
+
+mul-result : tie.Need-mul-result
+mul-result c =
+    let a = c .before .before .args .at in
+    omega (arith, c .shared-slice-known2 .given a, c .shared-slice-known2 .given (a + 1))
+
+add-result : tie.Need-add-result
+add-result c =
+    let a = c .before .before .args .at in
+    omega (arith, c .shared-slice-known2 .given a, c .shared-slice-known2 .given (a + 1))
+
+add-result-2 : tie.Need-add-result-2
+add-result-2 c =
+    let a = c .before .before .args .at in
+    omega (arith, c .shared-slice-known2 .given a, c .shared-slice-known2 .given (a + 1))
+
+returns : tie.Need-returns
+unfolding raisedAt
+returns c =
+    let a = c .before .before .args in
+    let s = a .problem .now in
+    ap (λ (i : ℕ). (getD s (a .at) 0 + 256 * getD s i 0 + 32768) % 65536) (add-one (a .at))
+
+pub raised-spec : {M : Type 1} → statement M
+raised-spec =
+    tie.close
+    (tie.spec
+    shared-slice-read-lo
+    cast-lo
+    add-hi
+    shared-slice-read-hi
+    cast-hi
+    mul-result
+    add-result
+    add-result-2
+    returns)
