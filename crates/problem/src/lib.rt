@@ -12,7 +12,7 @@ use terms::Term;
 ghost use mathlib.Core.Path.{_≡_};
 ghost use mathlib.Core.List.{List, map};
 ghost use Prim.Native.Nat.{ℕ, _+_, _*_, _≤_, _<_};
-ghost use lib.ListN.{length, drop};
+ghost use lib.ListN.{length, getD, drop};
 ghost use Rattle.calculus.specs.Terms.{term, setVar};
 ghost use Rattle.calculus.specs.Reading.{readConstraints};
 ghost use Rattle.questions.specs.Questions.{ConstantsRise, constantsOf};
@@ -154,7 +154,7 @@ pub fn set(problem: &[u8], tab: Table, i: usize, p: usize) -> SetVar
 // The witness of constraint i; where it has none, the next one.
 pub fn witness(tab: Table, i: usize) -> Term
     requires { ⌜ i < 48 ⌝ }
-    ensures { λ r. ⌜ ((bs : List ℕ) → Opened bs tab → term (r .0) ≡ witnessOf bs i) ⌝ }
+    ensures { λ r. ⌜ (r .0 ≡ getD (tab .witnesses) i 0) × ((bs : List ℕ) → Opened bs tab → term (r .0) ≡ witnessOf bs i) ⌝ }
 {
     Term(tab.witnesses[i])
 }
