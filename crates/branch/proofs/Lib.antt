@@ -3,3 +3,4 @@ pub mod Counting
 pub mod Roots
 pub mod Answers
 pub mod Laws
+pub mod Restricting
