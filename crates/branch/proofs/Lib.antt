@@ -4,3 +4,4 @@ pub mod Roots
 pub mod Answers
 pub mod Laws
 pub mod Restricting
+pub mod Recording

@@ -2,12 +2,13 @@
 use terms::SetVar;
 use terms::Term;
 ghost use mathlib.Core.Path.{_≡_};
-ghost use mathlib.Core.List.{[]};
-ghost use Prim.Native.Nat.{_<_};
-ghost use lib.ListN.{length};
+ghost use mathlib.Core.List.{[], _++_};
+ghost use Prim.Native.Nat.{_*_, _-_, _≤_, _<_};
+ghost use lib.ListN.{length, replicate};
 ghost use Rattle.calculus.specs.Lists.{bit};
 ghost use Rattle.calculus.specs.Terms.{term, setVar, termsFrom};
 ghost use Rattle.calculus.specs.Branch.{start, rootAt, In, Out, Same, known, conflictIf, mergeRoots, assert};
+ghost use Rattle.calculus.specs.Forms.{recordOf};
 ghost use Rattle.calculus.specs.Invariants.{Falls};
 ghost use Rattle.branch.specs.Held.{held, rootOf, answer, Good};
 
@@ -186,5 +187,24 @@ impl Branch {
             return self.merge_roots(h, k, constants);
         }
         self.merge_roots(k, h, constants)
+    }
+
+    // The record of a solved form over the first terms: of each its root and its class's masks; and 0 after them.
+    pub fn record(self, terms: u8) -> [u8; 192]
+        requires { ⌜ (terms ≤ 64) × Falls (self .parents) ⌝ }
+        ensures { λ r. ⌜ r ≡ recordOf terms (held self) ++ replicate (192 - 3 * terms) 0 ⌝ }
+    {
+        let mut bytes = [0u8; 192];
+        let insides = self.insides;
+        let outsides = self.outsides;
+        for t in 0..terms {
+            let h = self.root(Term(t));
+            let i = h.0 as usize;
+            let at = 3 * (t as usize);
+            bytes[at] = h.0;
+            bytes[at + 1] = insides[i];
+            bytes[at + 2] = outsides[i];
+        }
+        bytes
     }
 }
