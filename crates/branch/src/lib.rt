@@ -195,15 +195,15 @@ impl Branch {
         ensures { λ r. ⌜ r ≡ recordOf terms (held self) ++ replicate (192 - 3 * terms) 0 ⌝ }
     {
         let mut bytes = [0u8; 192];
-        let insides = self.insides;
-        let outsides = self.outsides;
+        let inside = self.insides;
+        let outside = self.outsides;
         for t in 0..terms {
             let h = self.root(Term(t));
             let i = h.0 as usize;
             let at = 3 * (t as usize);
             bytes[at] = h.0;
-            bytes[at + 1] = insides[i];
-            bytes[at + 2] = outsides[i];
+            bytes[at + 1] = inside[i];
+            bytes[at + 2] = outside[i];
         }
         bytes
     }
