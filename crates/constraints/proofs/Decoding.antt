@@ -1,0 +1,235 @@
+-- The laws of a constraint that is decoded, and of its entries. Assumes nothing.
+use mathlib.Core.Path.{_≡_, refl, sym, ap, ap₂, _∙_, subst}
+use mathlib.Core.Logic.{_≢_}
+use mathlib.Core.List.{List, [], _∷_, _++_, map}
+use Prim.Native.Nat.{ℕ, zero, suc, _+_, _-_, _<_, _≤_}
+use native.Mathlib.Omega.{arith}
+use lib.ListN.{length, getD, take, drop, length-append, length-drop, length-map}
+use lib.Seq.{getD-drop}
+use lib.IntN.{ℤ}
+use types.Run.{OneOf, miss}
+use denote.Enum.Declared.{tagOf}
+use Rattle.calculus.specs.Lists.{Each, upFrom}
+use Rattle.calculus.specs.Terms.{Term, SetVar, term, setVar}
+use Rattle.calculus.specs.Relations as relations
+use Rattle.calculus.specs.Meaning as calculus
+use Rattle.calculus.specs.Problem.{Problem, nameable, termCount, setCount, Refers}
+use Rattle.calculus.specs.Encoding.{encodeConstraint}
+use Rattle.calculus.proofs.Bools.{Each-imp}
+use Rattle.calculus.proofs.Sequences.{each-at, terms-at}
+use Rattle.calculus.proofs.Start.{up-length}
+use Rattle.calculus.proofs.RuleLaws.{ConstraintIn}
+use Rattle.calculus.proofs.ReadValid.{read-valid}
+use Rattle.calculus.proofs.ConstraintLaws.{constraints-in}
+use Rattle.terms.specs.declared.Term as terms
+use Rattle.terms.specs.declared.SetVar as sets
+use Rattle.questions.proofs.Constants.{AllBytes}
+use Rattle.problem.specs.declared.Table.{Table}
+use Rattle.problem.specs.Table.{problemTable, Opened, constraintsOf, noConstraint, constraintOf, kindOf, listed}
+use Rattle.problem.proofs.Access.{Read, opened, Placed, placed, kind-read, list-count, witness-read, witness-is}
+use Rattle.constraints.specs.declared.Constraint.{Constraint}
+use Rattle.constraints.specs.declared.Constraint.the-variants.{Member, Nonmember, Same, Different, Related, Negated, Exactly, Interval}
+use Rattle.places.specs.Places.{entriesOf}
+use Rattle.constraints.specs.Decoded.{decoded, Unpacked}
+use Rattle.constraints.proofs.Constraint.{the-type}
+
+-- ---- by the kind
+
+-- the constraint of kind k over the operands p, q and s, with its witness w and its entries es (no constraint has kind 0)
+abbrev pub ofKind : (k p q s w : ℕ) → List Term → calculus.Constraint
+ofKind k p q s w es =
+    getD (
+    noConstraint
+    ∷ calculus.member (term p) (setVar q)
+    ∷ calculus.nonmember (term p) (setVar q)
+    ∷ calculus.same (term p) (term q)
+    ∷ calculus.different (term p) (term q)
+    ∷ calculus.relation relations.equal (setVar p) (setVar q) (setVar p)
+    ∷ calculus.negation relations.unequal (setVar p) (setVar q) (setVar p) (term w)
+    ∷ calculus.relation relations.union (setVar p) (setVar q) (setVar s)
+    ∷ calculus.relation relations.disjoint (setVar p) (setVar q) (setVar p)
+    ∷ calculus.relation relations.subset (setVar p) (setVar q) (setVar p)
+    ∷ calculus.relation relations.intersection (setVar p) (setVar q) (setVar s)
+    ∷ calculus.exactly (setVar p) es
+    ∷ calculus.interval (setVar p) (term q) (term s)
+    ∷ []
+    ) k noConstraint
+
+-- a constraint is that of its kind over the bytes that follow its kind byte
+by-kind : (cs : List ℤ) (N S w : ℕ) (rest : List ℕ) (x : calculus.Constraint) → Refers cs N S x
+    → ((k : relations.Negation) (A B C : SetVar) (u : Term) → x ≡ calculus.negation k A B C u → term w ≡ u)
+    → x ≡ ofKind (kindOf x) (getD (encodeConstraint x ++ rest) 1 0) (getD (encodeConstraint x ++ rest) 2 0) (getD (encodeConstraint x ++ rest) 3 0) w (listed x)
+by-kind cs N S w rest (calculus.member t A) a h = refl
+by-kind cs N S w rest (calculus.nonmember t A) a h = refl
+by-kind cs N S w rest (calculus.same t u) a h = refl
+by-kind cs N S w rest (calculus.different t u) a h = refl
+by-kind cs N S w rest (calculus.relation relations.equal A B C) a h = ap (calculus.relation relations.equal A B) (a .3)
+by-kind cs N S w rest (calculus.relation relations.union A B C) a h = refl
+by-kind cs N S w rest (calculus.relation relations.disjoint A B C) a h = ap (calculus.relation relations.disjoint A B) (a .3)
+by-kind cs N S w rest (calculus.relation relations.subset A B C) a h = ap (calculus.relation relations.subset A B) (a .3)
+by-kind cs N S w rest (calculus.relation relations.intersection A B C) a h = refl
+by-kind cs N S w rest (calculus.negation relations.unequal A B C u) a h = ap₂ (calculus.negation relations.unequal A B) (a .2) (sym (h relations.unequal A B C u refl))
+by-kind cs N S w rest (calculus.exactly A es) a h = refl
+by-kind cs N S w rest (calculus.interval A i j) a h = refl
+
+-- kinds are 1 to 12, and at least two operands are written, three for kinds 7, 10 and 12
+kind-sizes : (x : calculus.Constraint) → (1 ≤ kindOf x) × (kindOf x ≤ 12) × (3 ≤ length (encodeConstraint x)) × (7 ≤ kindOf x → kindOf x ≢ 8 → kindOf x ≢ 9 → kindOf x ≢ 11 → 4 ≤ length (encodeConstraint x))
+kind-sizes (calculus.member t A) = (omega arith, omega arith, omega arith, λ a b c d. omega arith)
+kind-sizes (calculus.nonmember t A) = (omega arith, omega arith, omega arith, λ a b c d. omega arith)
+kind-sizes (calculus.same t u) = (omega arith, omega arith, omega arith, λ a b c d. omega arith)
+kind-sizes (calculus.different t u) = (omega arith, omega arith, omega arith, λ a b c d. omega arith)
+kind-sizes (calculus.relation relations.equal A B C) = (omega arith, omega arith, omega arith, λ a b c d. omega arith)
+kind-sizes (calculus.relation relations.union A B C) = (omega arith, omega arith, omega arith, λ a b c d. omega arith)
+kind-sizes (calculus.relation relations.disjoint A B C) = (omega arith, omega arith, omega arith, λ a b c d. absurd (b refl))
+kind-sizes (calculus.relation relations.subset A B C) = (omega arith, omega arith, omega arith, λ a b c d. absurd (c refl))
+kind-sizes (calculus.relation relations.intersection A B C) = (omega arith, omega arith, omega arith, λ a b c d. omega arith)
+kind-sizes (calculus.negation relations.unequal A B C u) = (omega arith, omega arith, omega arith, λ a b c d. omega arith)
+kind-sizes (calculus.exactly A es) = (omega arith, omega arith, omega arith, λ a b c d. absurd (d refl))
+kind-sizes (calculus.interval A i j) = (omega arith, omega arith, omega arith, λ a b c d. omega arith)
+
+-- the kinds that are left when others are gone
+pub from-seven : (k : ℕ) → 1 ≤ k → k ≢ 1 → k ≢ 2 → k ≢ 3 → k ≢ 4 → k ≢ 5 → k ≢ 6 → 7 ≤ k
+from-seven k l n₁ n₂ n₃ n₄ n₅ n₆ = omega arith
+
+pub last-kind : (k : ℕ) → 7 ≤ k → k ≤ 12 → k ≢ 7 → k ≢ 8 → k ≢ 9 → k ≢ 10 → k ≢ 11 → k ≡ 12
+last-kind k l h n₇ n₈ n₉ n₁₀ n₁₁ = omega arith
+
+-- ---- constraint i of a problem
+
+-- what each constraint of the problem has, constraint i has
+of-problem : (bs : List ℕ) (tab : Table) (i : ℕ) → i < tab .constraints → (r : Read bs tab) (P : calculus.Constraint → Type 0) → Each P (r .prob .constraints) → P (constraintOf bs i)
+unfolding problemTable constraintOf constraintsOf
+of-problem bs tab i l r P e =
+    let ls : List calculus.Constraint = r .prob .constraints in
+    let n : tab .constraints ≡ length ls = ap (λ (t : Table). t .constraints) (r .shows) in
+    let c : getD ls i noConstraint ≡ constraintOf bs i = rw (r .reads) in
+    subst P c (each-at P ls noConstraint e i (omega arith))
+
+-- the ranges that the code handles hold those of any problem
+wider : (n m : ℕ) → n ≤ 64 → m ≤ 8 → (x : calculus.Constraint) → ConstraintIn n m x → ConstraintIn 64 8 x
+wider n m u v (calculus.member t A) a = (omega (arith, a .0), omega (arith, a .1))
+wider n m u v (calculus.nonmember t A) a = (omega (arith, a .0), omega (arith, a .1))
+wider n m u v (calculus.same t s) a = (omega (arith, a .0), omega (arith, a .1))
+wider n m u v (calculus.different t s) a = (omega (arith, a .0), omega (arith, a .1))
+wider n m u v (calculus.relation k A B C) a = (omega (arith, a .0), omega (arith, a .1), omega (arith, a .2))
+wider n m u v (calculus.negation k A B C w) a = ((omega (arith, a .0 .0), omega (arith, a .0 .1), omega (arith, a .0 .2)), omega (arith, a .1))
+wider n m u v (calculus.exactly A es) a = (omega (arith, a .0), Each-imp (λ e. e .index < n) (λ e. e .index < 64) es (λ e l. omega arith) (a .1))
+wider n m u v (calculus.interval A i j) a = (omega (arith, a .0), Each-imp (λ e. e .index < n) (λ e. e .index < 64) (calculus.entries i j) (λ e l. omega arith) (a .1))
+
+-- a part of the numbers from s upward
+up-part : (n a k s t : ℕ) → t ≡ s + a → a + n ≤ k → take n (drop a (upFrom s k)) ≡ upFrom t n
+up-part zero a k s t e l = refl
+up-part (suc n) zero zero s t e l = absurd (omega arith)
+up-part (suc n) zero (suc k) s t e l = ap₂ (λ (x : ℕ) (xs : List ℕ). x ∷ xs) (omega arith) (up-part n zero k (suc s) (suc t) (omega arith) (omega arith))
+up-part (suc n) (suc a) zero s t e l = absurd (omega arith)
+up-part (suc n) (suc a) (suc k) s t e l = up-part (suc n) a k (suc s) t (omega arith) (omega arith)
+
+-- the variants but a list, and but an interval
+abbrev NoList : Constraint → Type 0
+NoList r = OneOf (0 ∷ 1 ∷ 2 ∷ 3 ∷ 4 ∷ 5 ∷ 7 ∷ []) (tagOf the-type r)
+
+abbrev NoInterval : Constraint → Type 0
+NoInterval r = OneOf (0 ∷ 1 ∷ 2 ∷ 3 ∷ 4 ∷ 5 ∷ 6 ∷ []) (tagOf the-type r)
+
+-- one that is neither has no entries
+no-entries : (r : Constraint) → NoList r → NoInterval r → (es : List Term) → (decoded es r ≡ decoded [] r) × (entriesOf (decoded [] r) ≡ [])
+no-entries (Member t A) a b es = (refl, refl)
+no-entries (Nonmember t A) a b es = (refl, refl)
+no-entries (Same t u) a b es = (refl, refl)
+no-entries (Different t u) a b es = (refl, refl)
+no-entries (Related k A B C) a b es = (refl, refl)
+no-entries (Negated k A B C w) a b es = (refl, refl)
+no-entries (Exactly A) a b es = absurd (miss (0 ∷ 1 ∷ 2 ∷ 3 ∷ 4 ∷ 5 ∷ 7 ∷ []) 6 tt a)
+no-entries (Interval A t u) a b es = absurd (miss (0 ∷ 1 ∷ 2 ∷ 3 ∷ 4 ∷ 5 ∷ 6 ∷ []) 7 tt b)
+
+module _ (bs : List ℕ) (tab : Table) (i : ℕ) (o : Opened bs tab) (l : i < tab .constraints) where
+  abbrev at : ℕ
+  at = getD (tab .offsets) i 0
+
+  abbrev this : calculus.Constraint
+  this = constraintOf bs i
+
+  place : Placed bs tab i
+  place = placed bs tab i o l
+
+  -- its bytes are part of the problem's
+  here-length : length bs - at ≡ length (encodeConstraint this) + length (place .rest)
+  here-length = sym (length-drop at bs) ∙ ap length (place .here) ∙ length-append (encodeConstraint this) (place .rest)
+
+  -- its kind byte is 1 to 12
+  pub kind-range : (1 ≤ getD bs at 0) × (getD bs at 0 ≤ 12)
+  kind-range = let k = kind-sizes this in omega (arith, k .0, k .1, kind-read bs tab i place)
+
+  -- two operands are there
+  pub two-operands : (i < 48) × (at + 2 < length bs) × (length bs ≤ 4096)
+  two-operands = (place .small, omega (arith, kind-sizes this .2, here-length), place .short)
+
+  -- a third is there for kinds 7, 10 and 12
+  pub third-operand : 7 ≤ getD bs at 0 → getD bs at 0 ≢ 8 → getD bs at 0 ≢ 9 → getD bs at 0 ≢ 11 → at + 3 < length bs
+  third-operand a b c d =
+      let e = kind-read bs tab i place in
+      let n : 4 ≤ length (encodeConstraint this) = kind-sizes this .3 (omega arith) (λ q. b (e ∙ q)) (λ q. c (e ∙ q)) (λ q. d (e ∙ q)) in
+      omega (arith, here-length)
+
+  -- constraint i is that of its kind over the bytes that follow its kind byte
+  pub reads-as : (k : ℕ) → getD bs at 0 ≡ k → this ≡ ofKind k (getD bs (at + 1) 0) (getD bs (at + 2) 0) (getD bs (at + 3) 0) (getD (tab .witnesses) i 0) (listed this)
+  reads-as k e =
+      let r = opened bs tab o in
+      let prob : Problem = r .prob in
+      let a = of-problem bs tab i l r (Refers (prob .constants) (nameable prob) (setCount prob)) (read-valid bs prob (r .reads) .refers) in
+      let w : ℕ = getD (tab .witnesses) i 0 in
+      let q : kindOf this ≡ k = sym (kind-read bs tab i place) ∙ e in
+      let h = by-kind (prob .constants) (nameable prob) (setCount prob) w (place .rest) this a (λ k A B C u z. witness-read bs tab i o (place .small) ∙ witness-is bs tab i o k A B C u z) in
+      let byte : (j : ℕ) → getD (encodeConstraint this ++ place .rest) j 0 ≡ getD bs (at + j) 0 = λ j. ap (λ (xs : List ℕ). getD xs j 0) (sym (place .here)) ∙ getD-drop at bs j 0 in
+      rw (q, byte 1, byte 2, byte 3) at h
+
+  -- its terms are below 64 and its sets below 8
+  in-range : ConstraintIn 64 8 this
+  in-range =
+      let r = opened bs tab o in
+      let v = read-valid bs (r .prob) (r .reads) in
+      wider (termCount (r .prob)) (setCount (r .prob)) (v .few-terms) (v .few-sets) this (of-problem bs tab i l r (ConstraintIn (termCount (r .prob)) (setCount (r .prob))) (constraints-in (r .prob) v))
+
+  -- ---- its entries
+
+  unpacked : (es : List ℕ) (r : Constraint) → this ≡ decoded (map term es) r → entriesOf (decoded (map term es) r) ≡ map term es → length es ≤ 255 → Unpacked bs i es r
+  unpacked es r e q n = record { is = e; handled = record { in-range = subst (ConstraintIn 64 8) e in-range; entries-are = q; short = n } }
+
+  module _ (r : Constraint) (is : this ≡ decoded (listed this) r) where
+    -- a list's: as many as its count byte says
+    module _ (A : sets.SetVar) (e : r ≡ Exactly A) where
+      pub list-kind : kindOf this ≡ 11
+      list-kind = ap kindOf (is ∙ ap (decoded (listed this)) e)
+
+      pub list-unpacked : AllBytes bs → (es : List ℕ) → map term es ≡ listed this → Unpacked bs i es r
+      list-unpacked known es h =
+          let n : length es ≡ getD bs (at + 2) 0 = sym (length-map es term) ∙ ap length h ∙ sym (list-count bs tab i place list-kind) in
+          let q : this ≡ calculus.exactly (setVar (A .0)) (map term es) = is ∙ ap (decoded (listed this)) e ∙ ap (calculus.exactly (setVar (A .0))) (sym h) in
+          unpacked es r (q ∙ ap (decoded (map term es)) (sym e)) (ap (λ (x : Constraint). entriesOf (decoded (map term es) x)) e) (omega (arith, known (at + 2)))
+
+    -- an interval's: the numbers from its first entry to its last
+    module _ (A : sets.SetVar) (t u : terms.Term) (e : r ≡ Interval A t u) where
+      -- any entries that are those numbers
+      interval-is : (es : List ℕ) → upFrom (t .0) (suc (u .0) - t .0) ≡ es → length es ≤ 255 → Unpacked bs i es r
+      interval-is es h n =
+          unpacked es r (is ∙ ap (decoded (listed this)) e ∙ ap (decoded (map term es)) (sym e)) (ap (λ (x : Constraint). entriesOf (decoded (map term es) x)) e ∙ ap (map term) h) n
+
+      -- an interval that is not empty ends below 64
+      pub interval-end : t .0 ≤ u .0 → u .0 < 64
+      interval-end h =
+          let a : ConstraintIn 64 8 (decoded (listed this) (Interval A t u)) = subst (ConstraintIn 64 8) (is ∙ ap (decoded (listed this)) e) in-range in
+          terms-at (λ x. x .index < 64) (t .0) (suc (u .0) - t .0) (a .1) (u .0) h (omega arith)
+
+      pub interval-unpacked : t .0 ≤ u .0 → (es numbers : List ℕ) → numbers ≡ upFrom 0 64 → es ≡ take (u .0 + 1 - t .0) (drop (t .0) numbers) → Unpacked bs i es r
+      interval-unpacked h es numbers m q =
+          let z : u .0 + 1 - t .0 ≡ suc (u .0) - t .0 = omega arith in
+          let p : take (suc (u .0) - t .0) (drop (t .0) (upFrom 0 64)) ≡ upFrom (t .0) (suc (u .0) - t .0) = up-part (suc (u .0) - t .0) (t .0) 64 0 (t .0) (omega arith) (omega (arith, interval-end h)) in
+          let s : upFrom (t .0) (suc (u .0) - t .0) ≡ es = sym (rw (m, z) at q ∙ p) in
+          interval-is es s (omega (arith, ap length s, up-length (t .0) (suc (u .0) - t .0), interval-end h))
+
+      pub interval-empty : u .0 < t .0 → Unpacked bs i [] r
+      interval-empty h = let z : suc (u .0) - t .0 ≡ 0 = omega arith in interval-is [] (ap (upFrom (t .0)) z) (omega arith)
+
+    -- any other's: none
+    pub others-unpacked : NoList r → NoInterval r → Unpacked bs i [] r
+    others-unpacked a b = let n = no-entries r a b (listed this) in unpacked [] r (is ∙ n .0) (n .1) (omega arith)

@@ -1,0 +1,108 @@
+// A constraint, decoded from the problem's bytes.
+use problem::Table;
+use problem::entries;
+use terms::SetVar;
+use terms::Term;
+ghost use mathlib.Core.Path.{_≡_};
+ghost use Prim.Native.Nat.{_<_};
+ghost use Rattle.calculus.specs.Lists.{upFrom};
+ghost use Rattle.problem.specs.Table.{Opened, constraintOf, listed};
+ghost use Rattle.constraints.specs.Decoded.{decoded, Unpacked};
+
+// The relations between sets, and those that a constraint can deny.
+pub enum Relation {
+    Equal,
+    Union,
+    Disjoint,
+    Subset,
+    Intersection,
+}
+
+pub enum Negation {
+    Unequal,
+}
+
+// A constraint with its operands; one of two sets repeats its first operand. The entries of a list stay in the problem.
+pub enum Constraint {
+    Member(Term, SetVar),
+    Nonmember(Term, SetVar),
+    Same(Term, Term),
+    Different(Term, Term),
+    Related(Relation, SetVar, SetVar, SetVar),
+    Negated(Negation, SetVar, SetVar, SetVar, Term),
+    Exactly(SetVar),
+    Interval(SetVar, Term, Term),
+}
+
+// Constraint i.
+pub fn decode(problem: &[u8], tab: Table, i: usize) -> Constraint
+    requires { ⌜ Opened (now problem) tab × (i < tab .constraints) ⌝ }
+    ensures { λ r. ⌜ constraintOf (now (problem .entry)) i ≡ decoded (listed (constraintOf (now (problem .entry)) i)) r ⌝ }
+{
+    let at = tab.offsets[i] as usize;
+    let kind = problem[at];
+    let p = problem[at + 1];
+    let q = problem[at + 2];
+    if kind == 1 {
+        return Constraint::Member(Term(p), SetVar(q));
+    }
+    if kind == 2 {
+        return Constraint::Nonmember(Term(p), SetVar(q));
+    }
+    if kind == 3 {
+        return Constraint::Same(Term(p), Term(q));
+    }
+    if kind == 4 {
+        return Constraint::Different(Term(p), Term(q));
+    }
+    if kind == 5 {
+        return Constraint::Related(Relation::Equal, SetVar(p), SetVar(q), SetVar(p));
+    }
+    if kind == 6 {
+        let w = tab.witnesses[i];
+        return Constraint::Negated(Negation::Unequal, SetVar(p), SetVar(q), SetVar(p), Term(w));
+    }
+    if kind == 8 {
+        return Constraint::Related(Relation::Disjoint, SetVar(p), SetVar(q), SetVar(p));
+    }
+    if kind == 9 {
+        return Constraint::Related(Relation::Subset, SetVar(p), SetVar(q), SetVar(p));
+    }
+    if kind == 11 {
+        return Constraint::Exactly(SetVar(p));
+    }
+    let s = problem[at + 3];
+    if kind == 7 {
+        return Constraint::Related(Relation::Union, SetVar(p), SetVar(q), SetVar(s));
+    }
+    if kind == 10 {
+        return Constraint::Related(Relation::Intersection, SetVar(p), SetVar(q), SetVar(s));
+    }
+    Constraint::Interval(SetVar(p), Term(q), Term(s))
+}
+
+// The entries of constraint i: the part of the problem that has a list's, the part of the numbers that has an interval's, and none of any other.
+pub fn list<'a>(
+    problem: &'a [u8],
+    numbers: &'a [u8],
+    tab: Table,
+    i: usize,
+    l: Constraint,
+) -> &'a [u8]
+    requires { ⌜ Opened (now problem) tab × (i < tab .constraints) × (now numbers ≡ upFrom 0 64) × (constraintOf (now problem) i ≡ decoded (listed (constraintOf (now problem) i)) l) ⌝ }
+    ensures { λ r. ⌜ Unpacked (now (problem .entry)) i (now r) l ⌝ }
+{
+    if let Constraint::Exactly(_) = l {
+        return entries(problem, tab, i);
+    }
+    if let Constraint::Interval(_, first, last) = l {
+        let a = first.0 as usize;
+        let z = last.0 as usize;
+        if z < a {
+            return &numbers[0..0];
+        }
+        let e = z + 1;
+        return &numbers[a..e];
+    }
+    &numbers[0..0]
+}
