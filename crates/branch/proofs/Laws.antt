@@ -30,12 +30,12 @@ pub start-good : (b : Branch) (k : ℕ) → held b ≡ calculus.start 64 → Goo
 start-good b k e = subst (WellFormed 64 (termsFrom 0 k)) (sym e) (start-fit 64 (termsFrom 0 k))
 
 -- an answer with no conflict has the branch that asserting gives
-answered : (b : Branch) (o : Option calculus.Branch) → answer b o .conflict ≡ false → o ≡ some (held (answer b o .branch))
+pub answered : (b : Branch) (o : Option calculus.Branch) → answer b o .conflict ≡ false → o ≡ some (held (answer b o .branch))
 unfolding answer
 answered b none q = absurd (true≢false q)
 answered b (some c) q = refl
 
-refusing : (b : Branch) (o : Option calculus.Branch) → answer b o .conflict ≡ true → o ≡ none
+pub refusing : (b : Branch) (o : Option calculus.Branch) → answer b o .conflict ≡ true → o ≡ none
 unfolding answer
 refusing b none q = refl
 refusing b (some c) q = absurd (false≢true q)

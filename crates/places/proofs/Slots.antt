@@ -24,7 +24,7 @@ use Rattle.calculus.proofs.Asserting.{below}
 use Rattle.calculus.proofs.Children.{asserts-fit}
 use Rattle.calculus.proofs.AddingFacts.{Each-distinct}
 use Rattle.calculus.proofs.WorkOrder.{some-each}
-use Rattle.places.specs.Places.{InSpan, RuleOf, rowOf, listMove, moveAt, entriesOf}
+use Rattle.places.specs.Places.{propagationSpan, InSpan, RuleOf, rowOf, listMove, moveAt, entriesOf}
 use Rattle.places.specs.Alternatives.{slotsOf, classChild, childOf}
 use Rattle.places.proofs.Offered.{relation-19}
 use Rattle.places.proofs.Picking.{picked-map, picked-among, distinct-picked}
@@ -137,3 +137,41 @@ module _ (n m : ℕ) where
 pub child-fit : (constants : List Term) (b : Branch) (l : Constraint) (j p c : ℕ) (d : Branch) → WellFormed 64 constants b → ConstraintIn 64 8 l → RuleOf l j → (j ≡ 19 → p < length (entriesOf l)) → (¬ (j ≡ 19) → p < 64) → c < slotsOf l j → childOf constants b l j p c ≡ some d → WellFormed 64 constants d
 child-fit constants b l j p c d F i r x y h e =
     some-each (WellFormed 64 constants) d (children constants b (moveAt b l j p .1)) (picked-fit 64 8 constants b F (moveAt b l j p .1 .alternatives) (alternatives-in 64 8 constants b F l j p i r x y)) (child-among constants b l j p c d r h e)
+
+-- a propagation rule has one number
+abbrev Single : Constraint → ℕ → Type 0
+Single l j = slotsOf l j ≡ 1
+
+pub propagation-slots : (l : Constraint) (j : ℕ) → InSpan (propagationSpan l) j → slotsOf l j ≡ 1
+unfolding slotsOf
+propagation-slots (member t A) j r = up-at (Single (member t A)) 1 1 (refl, tt) j (r .0) (r .1)
+propagation-slots (nonmember t A) j r = up-at (Single (nonmember t A)) 2 1 (refl, tt) j (r .0) (r .1)
+propagation-slots (same t u) j r = up-at (Single (same t u)) 3 1 (refl, tt) j (r .0) (r .1)
+propagation-slots (different t u) j r = up-at (Single (different t u)) 4 1 (refl, tt) j (r .0) (r .1)
+propagation-slots (relation equal A B C) j r = up-at (Single (relation equal A B C)) 5 2 (refl, (refl, tt)) j (r .0) (r .1)
+propagation-slots (relation union A B C) j r = up-at (Single (relation union A B C)) 8 4 (refl, (refl, (refl, (refl, tt)))) j (r .0) (r .1)
+propagation-slots (relation disjoint A B C) j r = up-at (Single (relation disjoint A B C)) 13 2 (refl, (refl, tt)) j (r .0) (r .1)
+propagation-slots (relation subset A B C) j r = up-at (Single (relation subset A B C)) 15 1 (refl, tt) j (r .0) (r .1)
+propagation-slots (relation intersection A B C) j r = up-at (Single (relation intersection A B C)) 16 3 (refl, (refl, (refl, tt))) j (r .0) (r .1)
+propagation-slots (negation k A B C w) j r = absurd (omega (arith, r .1))
+propagation-slots (exactly A es) j r = up-at (Single (exactly A es)) 19 1 (refl, tt) j (r .0) (r .1)
+propagation-slots (interval A x y) j r = up-at (Single (interval A x y)) 19 1 (refl, tt) j (r .0) (r .1)
+
+-- the move of rule j says so
+module _ (b : Branch) (p : ℕ) where
+  abbrev Says : Constraint → ℕ → Type 0
+  Says l j = moveAt b l j p .1 .rule ≡ j
+
+  pub move-rule : (l : Constraint) (j : ℕ) → RuleOf l j → moveAt b l j p .1 .rule ≡ j
+  move-rule (member t A) = in-spans (Says (member t A)) (1, 2) (0, 0) (refl, tt) tt
+  move-rule (nonmember t A) = in-spans (Says (nonmember t A)) (2, 3) (0, 0) (refl, tt) tt
+  move-rule (same t u) = in-spans (Says (same t u)) (3, 4) (0, 0) (refl, tt) tt
+  move-rule (different t u) = in-spans (Says (different t u)) (4, 5) (0, 0) (refl, tt) tt
+  move-rule (relation equal A B C) = in-spans (Says (relation equal A B C)) (5, 7) (0, 0) (refl, (refl, tt)) tt
+  move-rule (relation union A B C) = in-spans (Says (relation union A B C)) (8, 12) (12, 13) (refl, (refl, (refl, (refl, tt)))) (refl, tt)
+  move-rule (relation disjoint A B C) = in-spans (Says (relation disjoint A B C)) (13, 15) (0, 0) (refl, (refl, tt)) tt
+  move-rule (relation subset A B C) = in-spans (Says (relation subset A B C)) (15, 16) (0, 0) (refl, tt) tt
+  move-rule (relation intersection A B C) = in-spans (Says (relation intersection A B C)) (16, 19) (0, 0) (refl, (refl, (refl, tt))) tt
+  move-rule (negation unequal A B C w) = in-spans (Says (negation unequal A B C w)) (0, 0) (7, 8) tt (refl, tt)
+  move-rule (exactly A es) = in-spans (Says (exactly A es)) (19, 20) (20, 21) (refl, tt) (refl, tt)
+  move-rule (interval A x y) = in-spans (Says (interval A x y)) (19, 20) (20, 21) (refl, tt) (refl, tt)

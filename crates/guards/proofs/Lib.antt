@@ -1,0 +1,3 @@
+pub mod Applying
+pub mod RowLaws
+pub mod GuardLaws

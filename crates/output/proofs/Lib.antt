@@ -1,0 +1,4 @@
+pub mod Buffers
+pub mod Listing
+pub mod Playing
+pub mod Tallied

@@ -1,0 +1,37 @@
+-- A form that is listed, or has no room; a step that is noted, or has no budget.
+use mathlib.Core.Path.{_≡_, refl}
+use mathlib.Core.List.{List}
+use Prim.Native.Nat.{ℕ, zero, suc, _+_, _*_, _<_, _≤_}
+use native.Mathlib.Omega.{arith}
+use native.Mathlib.Nat.{mul-le-mul}
+use lib.ListN.{length}
+use borrow.Author.Tests.{le-leb, lt-leb, eq-eqb, ne-eqb}
+use Rattle.output.specs.State.{State, putAt, counted, state, listed, noted}
+
+module _ (n : ℕ) (r : List ℕ) (s : State) where
+  -- there is room
+  pub listed-there : 3 * n * s .counts .forms + 3 * n ≤ length (s .forms)
+      → listed n r s ≡ state (counted (s .counts .steps) (suc (s .counts .forms)) 0) (putAt (s .forms) (3 * n * s .counts .forms) r) (s .trace)
+  unfolding listed
+  listed-there l = rw (le-leb (3 * n * s .counts .forms + 3 * n) (length (s .forms)) l)
+
+  -- there is none
+  pub listed-not : length (s .forms) < 3 * n * s .counts .forms + 3 * n → listed n r s ≡ state (counted (s .counts .steps) (s .counts .forms) 2) (s .forms) (s .trace)
+  unfolding listed
+  listed-not l = rw (lt-leb (3 * n * s .counts .forms + 3 * n) (length (s .forms)) l)
+
+module _ (budget : ℕ) (r : List ℕ) (s : State) where
+  -- a step is left
+  pub noted-there : s .counts .steps < budget → noted budget r s ≡ state (counted (suc (s .counts .steps)) (s .counts .forms) 0) (s .forms) (putAt (s .trace) (4 * s .counts .steps) r)
+  unfolding noted
+  noted-there l = rw (ne-eqb (s .counts .steps) budget (λ e. omega arith))
+
+  -- none is left
+  pub noted-not : s .counts .steps ≡ budget → noted budget r s ≡ state (counted (s .counts .steps) (s .counts .forms) 1) (s .forms) (s .trace)
+  unfolding noted
+  noted-not e = rw (eq-eqb (s .counts .steps) budget e)
+
+-- records of one term or more are no fewer bytes than forms
+pub few-forms : (n f m : ℕ) → (n ≡ 0 → f ≡ 0) → 3 * n * f ≤ m → 3 * f ≤ m
+few-forms zero f m z l = omega (arith, z refl)
+few-forms (suc n) f m z l = let a : 3 ≤ 3 * suc n = omega arith in let b : f ≤ f = omega arith in omega (arith, mul-le-mul a b)

@@ -1,0 +1,69 @@
+-- The state of a run: its counters and both buffers, and what each event makes of it.
+use mathlib.Core.Bool.{Bool, true, false, cond}
+use mathlib.Core.List.{List, [], _∷_, _++_}
+use Prim.Native.Nat.{ℕ, zero, suc, _+_, _*_, _≤_}
+use lib.ListN.{length, take, drop}
+use lib.Dec.{eqb, leb}
+use Rattle.calculus.specs.Log.{Event, formed, stepped}
+use Rattle.calculus.specs.Forms.{recordOf}
+use Rattle.calculus.specs.Run.{End, DONE, SPENT, NOROOM, Tally}
+use Rattle.calculus.specs.Calls.{over}
+use Rattle.output.specs.declared.Counts.{Counts}
+
+-- a buffer with bytes written at a place, and otherwise as it was
+abbrev pub putAt : List ℕ → ℕ → List ℕ → List ℕ
+putAt buffer at bytes = take at buffer ++ (bytes ++ drop (at + length bytes) buffer)
+
+-- with the form buffer and the trace buffer; stop is 0 while the run goes on
+pub record State : Type 0 where
+  pub counts : Counts
+  pub forms : List ℕ
+  pub trace : List ℕ
+
+abbrev pub counted : ℕ → ℕ → ℕ → Counts
+counted steps forms stop = record { steps = steps; forms = forms; stop = stop }
+
+abbrev pub state : Counts → List ℕ → List ℕ → State
+state c forms trace = record { counts = c; forms = forms; trace = trace }
+
+-- the number of each end
+abbrev pub stopNumber : End → ℕ
+stopNumber DONE = 0
+stopNumber SPENT = 1
+stopNumber NOROOM = 2
+
+-- a solved form of n terms: its record is written after the others if it fits
+unfoldable pub listed : ℕ → List ℕ → State → State
+listed n r s = cond (leb (3 * n * s .counts .forms + 3 * n) (length (s .forms)))
+    (state (counted (s .counts .steps) (suc (s .counts .forms)) 0) (putAt (s .forms) (3 * n * s .counts .forms) r) (s .trace))
+    (state (counted (s .counts .steps) (s .counts .forms) 2) (s .forms) (s .trace))
+
+-- a step: if the budget has one left
+unfoldable pub noted : ℕ → List ℕ → State → State
+noted budget r s = cond (eqb (s .counts .steps) budget)
+    (state (counted (s .counts .steps) (s .counts .forms) 1) (s .forms) (s .trace))
+    (state (counted (suc (s .counts .steps)) (s .counts .forms) 0) (s .forms) (putAt (s .trace) (4 * s .counts .steps) r))
+
+-- an event changes nothing once the run has stopped
+abbrev pub event : ℕ → ℕ → State → Event → State
+event n budget s (formed b) = cond (eqb (s .counts .stop) 0) (listed n (recordOf n b) s) s
+event n budget s (stepped r) = cond (eqb (s .counts .stop) 0) (noted budget r s) s
+
+-- events, one after the other
+abbrev pub play : ℕ → ℕ → State → List Event → State
+play n budget s [] = s
+play n budget s (e ∷ es) = play n budget (event n budget s e) es
+
+-- before the first event, and as a tally leaves it
+abbrev pub begun : List ℕ → List ℕ → State
+begun forms trace = state (counted 0 0 0) forms trace
+
+abbrev pub left : Tally → List ℕ → List ℕ → State
+left t forms trace = state (counted (t .steps) (t .forms) (stopNumber (t .end))) (over (t .records) forms) (over (t .trace) trace)
+
+-- steps within the budget, records and trace within their buffers
+pub record Fine (n budget : ℕ) (s : State) : Type 0 where
+  pub within : s .counts .steps ≤ budget
+  pub few : budget ≤ 10000
+  pub traced : 4 * budget ≤ length (s .trace)
+  pub written : 3 * n * s .counts .forms ≤ length (s .forms)
