@@ -30,12 +30,12 @@ use Rattle.places.proofs.Offered.{relation-19}
 use Rattle.places.proofs.Picking.{picked-map, picked-among, distinct-picked}
 
 -- what holds of each number of two spans holds of a number in one of them
-in-spans : (P : ℕ → Type 0) (s u : ℕ × ℕ) → Each P (upFrom (s .0) (s .1 - s .0)) → Each P (upFrom (u .0) (u .1 - u .0)) → (j : ℕ) → InSpan s j ⊎ InSpan u j → P j
+pub in-spans : (P : ℕ → Type 0) (s u : ℕ × ℕ) → Each P (upFrom (s .0) (s .1 - s .0)) → Each P (upFrom (u .0) (u .1 - u .0)) → (j : ℕ) → InSpan s j ⊎ InSpan u j → P j
 in-spans P s u x y j (inl r) = up-at P (s .0) (s .1 - s .0) x j (r .0) (omega (arith, r .0, r .1))
 in-spans P s u x y j (inr r) = up-at P (u .0) (u .1 - u .0) y j (r .0) (omega (arith, r .0, r .1))
 
 module _ (constants : List Term) (b : Branch) where
-  assert-one : (f : Fact) → assertAll constants b (f ∷ []) ≡ assert constants b f
+  pub assert-one : (f : Fact) → assertAll constants b (f ∷ []) ≡ assert constants b f
   assert-one f = go (assert constants b f)
     where
       go : (o : Option Branch) → elim o [ none ↦ none | some c ↦ some c ] ≡ o

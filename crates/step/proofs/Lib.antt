@@ -1,0 +1,6 @@
+pub mod Entries
+pub mod Asserting
+pub mod Rows
+pub mod Classes
+pub mod Children
+pub mod Counting

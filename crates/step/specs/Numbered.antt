@@ -1,0 +1,26 @@
+-- The children of the rules on sets and of the rules on lists, by the rule's number.
+use mathlib.Core.Bool.{cond}
+use mathlib.Core.Option.{Option}
+use mathlib.Core.List.{List, [], _∷_, _++_}
+use Prim.Native.Nat.{ℕ, _-_}
+use lib.ListN.{getD}
+use lib.Dec.{eqb}
+use Rattle.calculus.specs.Terms.{Term, SetVar, term}
+use Rattle.calculus.specs.Relations.{Rule, Literal, A, equal, union, disjoint, subset, intersection, unequal, propagation, propagationRows, splitRows, negationRow}
+use Rattle.calculus.specs.Relations as R
+use Rattle.calculus.specs.Branch.{Branch, Fact, In, assert}
+use Rattle.calculus.specs.Search.{operandOf, at}
+use Rattle.places.specs.Alternatives.{classChild}
+
+-- the rules on sets, 5 to 18
+unfoldable pub rowNumbered : ℕ → Rule Literal
+rowNumbered j =
+    getD (propagationRows equal ++ (negationRow unequal ∷ []) ++ propagationRows union ++ splitRows union ++ propagationRows disjoint ++ propagationRows subset ++ propagationRows intersection) (j - 5) (propagation 0 [] (R.In A))
+
+-- what their child c asserts of term t; the operands are x, y and z
+abbrev pub factsOf : Term → SetVar → SetVar → SetVar → ℕ → ℕ → List Fact
+factsOf t x y z j c = getD (at t (operandOf x y z) (rowNumbered j) .alternatives) c []
+
+-- rule 19: entry p is in a; rule 20: root p is in the class of entry c
+unfoldable pub listChild : List Term → Branch → List Term → SetVar → ℕ → ℕ → ℕ → Option Branch
+listChild constants b es a j p c = cond (eqb j 19) (assert [] b (In (getD es p (term 0)) a)) (classChild constants b es p c)
