@@ -1,0 +1,42 @@
+-- What an opened table says of the problem: its terms, constants and sets are within bounds, and every constraint is in range.
+use mathlib.Core.Path.{_≡_, refl, sym, ap, subst}
+use mathlib.Core.List.{List, map}
+use Prim.Native.Nat.{ℕ, _+_, _<_, _≤_}
+use native.Mathlib.Omega.{arith}
+use lib.ListN.{length, getD}
+use Rattle.calculus.specs.Lists.{Each}
+use Rattle.calculus.specs.Terms.{Term, term, termsFrom}
+use Rattle.calculus.specs.Meaning.{Constraint}
+use Rattle.calculus.specs.Problem.{Problem, constantCount, termCount, setCount}
+use Rattle.calculus.specs.Reading.{read}
+use Rattle.calculus.proofs.RuleLaws.{ConstraintIn}
+use Rattle.calculus.proofs.ConstraintLaws.{constraints-in}
+use Rattle.calculus.proofs.ReadValid.{read-valid}
+use Rattle.calculus.proofs.Sequences.{terms-each}
+use Rattle.problem.specs.declared.Table.{Table}
+use Rattle.problem.specs.Table.{problemTable, Opened, constraintsOf}
+use Rattle.problem.proofs.Access.{opened, opened-sizes}
+use Rattle.branch.proofs.Restricting.{Among}
+use Rattle.solver.specs.Outcomes.{constants, constraints}
+
+module _ (bs : List ℕ) (tab : Table) (o : Opened bs tab) where
+  pub in-range : Each (ConstraintIn (tab .terms) (tab .sets)) (constraints bs tab)
+  unfolding problemTable constraintsOf
+  in-range = let r = opened bs tab o in rw (r .shows, r .reads) (constraints-in (r .prob) (read-valid bs (r .prob) (r .reads)))
+
+  pub constants-few : tab .constants ≤ tab .terms
+  unfolding problemTable
+  constants-few = let r = opened bs tab o in rw (r .shows) (omega arith)
+
+  pub among : Among (tab .terms) (constants bs tab)
+  among = terms-each (λ (t : Term). t .index < tab .terms) 0 (tab .constants) (λ t l h. omega (arith, constants-few))
+
+  pub terms-few : tab .terms ≤ 64
+  terms-few = opened-sizes bs tab o .2
+
+  pub counted : tab .constraints ≡ length (constraints bs tab)
+  unfolding problemTable constraintsOf
+  counted = let r = opened bs tab o in rw (r .shows, r .reads) refl
+
+  pub place-there : (i : ℕ) → i < length (constraints bs tab) → i < tab .constraints
+  place-there i l = omega (arith, counted)
