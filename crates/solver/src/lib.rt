@@ -32,6 +32,17 @@ pub struct Inferred {
     pub found: u8,
 }
 
+// Working the branch has ended, with these counts.
+fn ended(b: Branch, counts: Counts) -> Inferred
+    ensures { λ r. ⌜ r ≡ record { branch = b; counts = counts; found = 2 } ⌝ }
+{
+    Inferred {
+        branch: b,
+        counts: counts,
+        found: 2,
+    }
+}
+
 // Takes the first propagation step, if there is one and the budget has a step left.
 fn infer<'a>(
     problem: &'a [u8],
@@ -57,15 +68,12 @@ fn infer<'a>(
     let steps = c.steps;
     let forms = c.forms;
     if steps == budget {
-        return Inferred {
-            branch: b,
-            counts: Counts {
-                steps: steps,
-                forms: forms,
-                stop: 1,
-            },
-            found: 2,
+        let spent = Counts {
+            steps: steps,
+            forms: forms,
+            stop: 1,
         };
+        return ended(b, spent);
     }
     let i = place.constraint;
     let p = place.position;
@@ -81,11 +89,7 @@ fn infer<'a>(
     };
     if next.conflict {
         note(trace, steps, rule, i, h, 0);
-        return Inferred {
-            branch: b,
-            counts: after,
-            found: 2,
-        };
+        return ended(b, after);
     }
     note(trace, steps, rule, i, h, 1);
     let then = next.branch;
@@ -169,16 +173,16 @@ fn work<'a>(
     if place.rule == 0 {
         return list_form(at, tab.terms, counts, forms);
     }
-    let steps = counts.steps;
+    let taken = counts.steps;
     let listed = counts.forms;
-    if steps == budget {
+    if taken == budget {
         return Counts {
-            steps: steps,
+            steps: taken,
             forms: listed,
             stop: 1,
         };
     }
-    note_split(problem, numbers, tab, at, place, steps, trace);
+    note_split(problem, numbers, tab, at, place, taken, trace);
     children(
         problem,
         numbers,
@@ -189,7 +193,7 @@ fn work<'a>(
         forms,
         trace,
         Counts {
-            steps: steps + 1,
+            steps: taken + 1,
             forms: listed,
             stop: 0,
         },

@@ -5,11 +5,9 @@ use Rattle.capi.proofs.declined.Tie as tie
 use Rattle.capi.proofs.declined.Reads as reads
 use Rattle.capi.proofs.declined.Lts as lts
 
--- src/lib.rt:12:5
 mul-result : tie.Need-mul-result
 mul-result c = search needs
 
--- src/lib.rt:9:1
 returns : tie.Need-returns
 returns c = refusal-word (c .args .n)
 

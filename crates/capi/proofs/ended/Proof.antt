@@ -5,47 +5,36 @@ use Rattle.capi.proofs.ended.Tie as tie
 use Rattle.capi.proofs.ended.Reads as reads
 use Rattle.capi.proofs.ended.Lts as lts
 
--- src/lib.rt:22:18
 mul-counts : tie.Need-mul-counts
 mul-counts c = search needs
 
--- src/lib.rt:22:34
 mul-counts-2 : tie.Need-mul-counts-2
 mul-counts-2 c = search needs
 
--- src/lib.rt:22:18
 add-counts : tie.Need-add-counts
 add-counts c = search needs
 
--- src/lib.rt:24:16
 add-result : tie.Need-add-result
 add-result c = search needs
 
--- src/lib.rt:24:9
 returns : tie.Need-returns
 returns c = spent-word _ _ _ (c .if1 .taken)
 
--- src/lib.rt:27:16
 add-result-2 : tie.Need-add-result-2
 add-result-2 c = search needs
 
--- src/lib.rt:27:9
 returns-2 : tie.Need-returns-2
 returns-2 c = full-word _ _ _ (c .before .before .if1 .left) (c .if2 .taken)
 
--- src/lib.rt:30:16
 add-result-3 : tie.Need-add-result-3
 add-result-3 c = search needs
 
--- src/lib.rt:30:9
 returns-3 : tie.Need-returns-3
 returns-3 c = false-word _ _ _ (c .before .if2 .left) (c .if3 .taken)
 
--- src/lib.rt:32:5
 add-result-4 : tie.Need-add-result-4
 add-result-4 c = search needs
 
--- src/lib.rt:16:1
 returns-4 : tie.Need-returns-4
 returns-4 c = forms-word _ _ _ (c .before .if2 .left) (c .if3 .left)
 

@@ -10,55 +10,42 @@ use Rattle.capi.proofs.ended.Reads as ended-reads
 use Rattle.problem.proofs.read.Reads as read-reads
 use Rattle.solver.proofs.solve.Reads as solve-reads
 
--- src/lib.rt:42:9
 read-requires : tie.Need-read-requires
 read-requires c κs = search needs
 
--- src/lib.rt:45:9
 declined-requires : tie.Need-declined-requires
 declined-requires c κs = search needs
 
--- src/lib.rt:45:9
 returns : tie.Need-returns
 returns c = run-refused _ _ _ _ _ (first-refused _ _ (c .before .before .before .before .before .before .args .forms .now) (c .before .before .before .before .before .before .args .trace .now) _ (table-refused _ _ (c .before .before .read .ensures) (c .before .if1 .taken))) _ (c .declined .ensures)
 
--- src/lib.rt:48:9
 declined-requires-2 : tie.Need-declined-requires-2
 declined-requires-2 c κs = search needs
 
--- src/lib.rt:48:9
 returns-2 : tie.Need-returns-2
 returns-2 c = run-refused _ _ _ _ 12 (over-budget _ _ (c .before .before .before .before .before .before .before .args .forms .now) (c .before .before .before .before .before .before .before .args .trace .now) _ (table-opened _ _ (c .before .before .before .read .ensures) (c .before .before .if1 .left)) (c .before .if2 .taken)) _ (c .declined2 .ensures)
 
--- src/lib.rt:51:22
 mul-if3 : tie.Need-mul-if3
 mul-if3 c = search needs
 
--- src/lib.rt:52:9
 declined-requires-3 : tie.Need-declined-requires-3
 declined-requires-3 c κs = search needs
 
--- src/lib.rt:52:9
 returns-3 : tie.Need-returns-3
 returns-3 c = run-refused _ _ _ _ 13 (short-trace _ _ (c .before .before .before .before .before .before .before .before .args .forms .now) (c .before .before .before .before .before .before .before .before .args .trace .now) _ (table-opened _ _ (c .before .before .before .before .read .ensures) (c .before .before .before .if1 .left)) (omega (arith, c .before .before .if2 .left)) (c .before .if3 .taken)) _ (c .declined3 .ensures)
 
--- src/lib.rt:54:11
 solve-requires : tie.Need-solve-requires
 solve-requires c κs = search needs
 
--- src/lib.rt:54:5
 ended-requires : tie.Need-ended-requires
 ended-requires c κs = run-bounds _ (c .before .before .before .before .before .before .before .before .before .before .before .before .before .before .args .budget) (c .before .before .before .before .before .before .before .before .before .before .before .before .before .before .args .forms .now) (c .before .before .before .before .before .before .before .before .before .before .before .before .before .before .args .trace .now) _ (table-opened _ _ (c .before .before .before .before .before .before .before .before .before .before .read .ensures) (c .before .before .before .before .before .before .before .before .before .if1 .left)) (omega (arith, c .before .before .before .before .before .before .before .before .if2 .left)) (omega (arith, c .before .before .before .before .before .before .before .if3 .left)) _ _ _ (c .before .before .before .before .solve .ensures)
 
--- src/lib.rt:38:1
 same-length : tie.Need-same-length
 same-length c = search needs
 
--- src/lib.rt:38:1
 same-length-2 : tie.Need-same-length-2
 same-length-2 c = search needs
 
--- src/lib.rt:38:1
 returns-4 : tie.Need-returns-4
 returns-4 c = run-ended _ _ _ _ _ (table-opened _ _ (c .before .before .before .before .before .before .before .before .before .before .before .read .ensures) (c .before .before .before .before .before .before .before .before .before .before .if1 .left)) (omega (arith, c .before .before .before .before .before .before .before .before .before .if2 .left)) (omega (arith, c .before .before .before .before .before .before .before .before .if3 .left)) _ _ _ (c .before .before .before .before .before .solve .ensures) _ (c .ended .ensures)
 

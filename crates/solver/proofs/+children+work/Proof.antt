@@ -63,31 +63,24 @@ abbrev calls-work : ℕ → work-lts.Claims
 calls-work t =
     (settle-reads.Asked, settle-reads.Learnt, search-reads.Asked, search-reads.Learnt, list-form-reads.Asked, list-form-reads.Learnt, note-split-reads.Asked, note-split-reads.Learnt, children-below t, children.Post)
 
--- src/lib.rt:133:34
 children-cast-decode : (t : ℕ) → children-lts.Need-cast-decode (calls-children t) (children-at t) children.Post children-Inv-loop children-μ-loop
 children-cast-decode t c = search needs
 
--- src/lib.rt:133:9
 children-decode-requires : (t : ℕ) → children-lts.Need-decode-requires (calls-children t) (children-at t) children.Post children-Inv-loop children-μ-loop
 children-decode-requires t c κs = let q = c .before .before .before .before .pre .1 in (q .0, place-there _ _ (q .0) _ (q .3 .within .in-problem))
 
--- src/lib.rt:134:47
 children-cast-list : (t : ℕ) → children-lts.Need-cast-list (calls-children t) (children-at t) children.Post children-Inv-loop children-μ-loop
 children-cast-list t c = search needs
 
--- src/lib.rt:134:9
 children-list-requires : (t : ℕ) → children-lts.Need-list-requires (calls-children t) (children-at t) children.Post children-Inv-loop children-μ-loop
 children-list-requires t c κs = let q = c .before .before .before .before .before .pre .1 in (q .0, place-there _ _ (q .0) _ (q .3 .within .in-problem), q .1, c .decode .ensures)
 
--- src/lib.rt:135:9
 children-slots-requires : (t : ℕ) → children-lts.Need-slots-requires (calls-children t) (children-at t) children.Post children-Inv-loop children-μ-loop
 children-slots-requires t c κs = c .list .ensures .handled
 
--- src/lib.rt:137:5
 children-loop-holds : (t : ℕ) → children-lts.Need-loop-holds (calls-children t) (children-at t) children.Post children-Inv-loop children-μ-loop
 children-loop-holds t c = let q = c .before .before .before .before .before .before .before .pre .1 in (worked-begin _ _ (q .0) _ _ (q .2) _ (q .3) _ _ (c .before .list .ensures) _ _ _ (q .5) (q .4), omega arith, refl, refl)
 
--- src/lib.rt:138:13
 children-child-requires : (t : ℕ) → children-lts.Need-child-requires (calls-children t) (children-at t) children.Post children-Inv-loop children-μ-loop
 children-child-requires t c κs =
     let q = c .before .before .before .before .before .before .before .before .before .pre .1 in
@@ -95,7 +88,6 @@ children-child-requires t c κs =
     let u = c .before .before .before .list .ensures in
     (q .2, u .handled, ruled _ _ (q .0) _ (q .2) _ _ w _ _ u, entry-there _ _ (q .0) _ (q .2) _ _ w _ _ u, λ n. root-there _ _ (q .0) _ (q .2) _ _ w _ _ u n .0, omega (arith, c .loop-test .taken, c .before .before .slots .ensures))
 
--- src/lib.rt:141:13
 children-work-requires : (t : ℕ) → children-lts.Need-work-requires (calls-children t) (children-at t) children.Post children-Inv-loop children-μ-loop
 children-work-requires t c κs =
     let q = c .before .before .before .before .before .before .before .before .before .before .before .before .before .before .before .pre .1 in
@@ -106,15 +98,12 @@ children-work-requires t c κs =
     let less = worked-less _ _ (q .0) _ _ (q .2) _ (q .3) _ _ u _ _ _ _ _ _ _ (v .0) (omega (arith, c .before .before .before .before .before .before .loop-test .taken, c .before .before .before .before .before .before .before .before .slots .ensures)) _ e (not-true n) in
     (omega (arith, less, c .before .before .before .before .before .before .before .before .before .before .before .before .before .before .before .pre .0), (q .0, q .1, worked-good _ _ (q .0) _ _ (q .2) _ (q .3) _ _ u _ _ _ _ _ _ _ (v .0) (omega (arith, c .before .before .before .before .before .before .loop-test .taken, c .before .before .before .before .before .before .before .before .slots .ensures)) _ e (not-true n), v .0 .on, v .0 .fine, λ z. absurd (some-terms _ _ (q .0) _ (q .2) _ (q .3) z)))
 
--- src/lib.rt:143:17
 children-same-length : (t : ℕ) → children-lts.Need-same-length (calls-children t) (children-at t) children.Post children-Inv-loop children-μ-loop
 children-same-length t c = search needs
 
--- src/lib.rt:143:17
 children-same-length-2 : (t : ℕ) → children-lts.Need-same-length-2 (calls-children t) (children-at t) children.Post children-Inv-loop children-μ-loop
 children-same-length-2 t c = search needs
 
--- src/lib.rt:143:17
 children-returns : (t : ℕ) → children-lts.Need-returns (calls-children t) (children-at t) children.Post children-Inv-loop children-μ-loop
 children-returns t c =
     let q = c .before .before .before .before .before .before .before .before .before .before .before .before .before .before .before .before .before .before .before .before .before .before .pre .1 in
@@ -122,15 +111,12 @@ children-returns t c =
     let v = c .before .before .before .before .before .before .before .before .before .before .before .before .before .before .loop .inv in
     worked-stop _ _ (q .0) _ _ (q .2) _ (q .3) _ _ u _ _ _ _ _ _ _ (v .0) (omega (arith, c .before .before .before .before .before .before .before .before .before .before .before .before .before .loop-test .taken, c .before .before .before .before .before .before .before .before .before .before .before .before .before .before .before .slots .ensures)) _ (c .before .before .before .before .before .before .before .before .before .before .before .before .child .ensures) (not-true (c .before .before .before .before .before .before .before .before .before .before .if1 .taken)) _ _ _ (c .before .before .before .before .before .before .work .ensures) (c .if2 .taken)
 
--- src/lib.rt:137:9
 children-add-k : (t : ℕ) → children-lts.Need-add-k (calls-children t) (children-at t) children.Post children-Inv-loop children-μ-loop
 children-add-k t c = search needs
 
--- src/lib.rt:137:5
 children-loop-less : (t : ℕ) → children-lts.Need-loop-less (calls-children t) (children-at t) children.Post children-Inv-loop children-μ-loop
 children-loop-less t c = omega (arith, c .before .before .before .loop-test .taken)
 
--- src/lib.rt:137:5
 children-loop-again : (t : ℕ) → children-lts.Need-loop-again (calls-children t) (children-at t) children.Post children-Inv-loop children-μ-loop
 children-loop-again t c =
     let q = c .before .before .before .before .before .before .before .before .before .before .before .before .pre .1 in
@@ -141,65 +127,51 @@ children-loop-again t c =
     (λ w. (rw (w .1, w .2, w .3) (worked-skip _ _ (q .0) _ _ (q .2) _ (q .3) _ _ u _ _ _ _ _ _ _ (v .0) (omega (arith, c .before .before .before .loop-test .taken, c .before .before .before .before .before .slots .ensures)) _ (c .before .before .child .ensures) (not-false (w .0 .left))), omega (arith, c .before .before .before .loop-test .taken), ap length (w .1) ∙ v .2, ap length (w .2) ∙ v .3))
     (c .if1 .came)
 
--- src/lib.rt:125:1
 children-same-length-3 : (t : ℕ) → children-lts.Need-same-length-3 (calls-children t) (children-at t) children.Post children-Inv-loop children-μ-loop
 children-same-length-3 t c = search needs
 
--- src/lib.rt:125:1
 children-same-length-4 : (t : ℕ) → children-lts.Need-same-length-4 (calls-children t) (children-at t) children.Post children-Inv-loop children-μ-loop
 children-same-length-4 t c = search needs
 
--- src/lib.rt:125:1
 children-returns-2 : (t : ℕ) → children-lts.Need-returns-2 (calls-children t) (children-at t) children.Post children-Inv-loop children-μ-loop
 children-returns-2 t c =
     let q = c .before .before .before .before .before .before .before .before .before .pre .1 in
     let v = c .before .loop .inv in
     worked-done _ _ (q .0) _ _ (q .2) _ (q .3) _ _ (c .before .before .before .list .ensures) _ _ _ _ _ _ _ (v .0) (omega (arith, c .loop-test .left, c .before .before .slots .ensures))
 
--- src/lib.rt:105:9
 work-settle-requires : (t : ℕ) → work-lts.Need-settle-requires (calls-work t) (work-at t) work.Post
 work-settle-requires t c κs = let q = c .before .before .before .before .before .pre .1 in (q .0, q .1, q .2, record { on = q .3; within = q .4 .within; few = q .4 .few; traced = q .4 .traced })
 
--- src/lib.rt:108:9
 work-same-length : (t : ℕ) → work-lts.Need-same-length (calls-work t) (work-at t) work.Post
 work-same-length t c = search needs
 
--- src/lib.rt:108:9
 work-returns : (t : ℕ) → work-lts.Need-returns (calls-work t) (work-at t) work.Post
 work-returns t c = c .before .before .before .before .before .settle .ensures .ended (c .if1 .taken) _
 
--- src/lib.rt:111:9
 work-search-requires : (t : ℕ) → work-lts.Need-search-requires (calls-work t) (work-at t) work.Post
 work-search-requires t c κs = let q = c .before .before .before .before .before .before .before .before .before .before .before .before .pre .1 in (q .0, q .1, c .before .before .before .before .before .before .settle .ensures .good (c .before .if1 .left) .0 .falls)
 
--- src/lib.rt:113:9
 work-list-form-requires : (t : ℕ) → work-lts.Need-list-form-requires (calls-work t) (work-at t) work.Post
 work-list-form-requires t c κs =
     let q = c .before .before .before .before .before .before .before .before .before .before .before .before .before .before .before .before .pre .1 in
     let g = c .before .before .before .before .before .before .before .before .before .before .settle .ensures .good (c .before .before .before .before .before .if1 .left) in
     (terms-few _ _ (q .0), g .0 .falls, same-room _ _ _ _ (g .2) (q .4 .written), λ z. g .2 ∙ q .5 z)
 
--- src/lib.rt:113:9
 work-same-length-2 : (t : ℕ) → work-lts.Need-same-length-2 (calls-work t) (work-at t) work.Post
 work-same-length-2 t c = search needs
 
--- src/lib.rt:113:9
 work-same-length-3 : (t : ℕ) → work-lts.Need-same-length-3 (calls-work t) (work-at t) work.Post
 work-same-length-3 t c = search needs
 
--- src/lib.rt:113:9
 work-returns-2 : (t : ℕ) → work-lts.Need-returns-2 (calls-work t) (work-at t) work.Post
 work-returns-2 t c = let q = c .before .before .before .before .before .before .before .before .before .before .before .before .before .before .before .before .before .before .before .pre .1 in works-form _ _ (q .0) _ _ _ _ _ _ _ (c .before .before .before .before .before .before .before .before .before .before .before .before .before .settle .ensures) (c .before .before .before .before .before .before .before .before .if1 .left) _ (c .before .before .before .before .before .before .search .ensures) (c .before .before .before .before .if2 .taken) _ _ (c .before .before .list-form .ensures)
 
--- src/lib.rt:118:9
 work-same-length-4 : (t : ℕ) → work-lts.Need-same-length-4 (calls-work t) (work-at t) work.Post
 work-same-length-4 t c = search needs
 
--- src/lib.rt:118:9
 work-returns-3 : (t : ℕ) → work-lts.Need-returns-3 (calls-work t) (work-at t) work.Post
 work-returns-3 t c = let q = c .before .before .before .before .before .before .before .before .before .before .before .before .before .before .before .before .pre .1 in works-spent _ _ (q .0) _ _ _ _ _ _ _ (c .before .before .before .before .before .before .before .before .before .before .settle .ensures) (c .before .before .before .before .before .if1 .left) _ (c .before .before .before .search .ensures) (c .before .if2 .left) (c .if3 .taken)
 
--- src/lib.rt:120:5
 work-note-split-requires : (t : ℕ) → work-lts.Need-note-split-requires (calls-work t) (work-at t) work.Post
 work-note-split-requires t c κs =
     let q = c .before .before .before .before .before .before .before .before .before .before .before .before .before .before .before .before .before .pre .1 in
@@ -208,11 +180,9 @@ work-note-split-requires t c κs =
     let g = e .good z in
     (q .0, q .1, g .0, splits _ _ (q .0) _ _ _ [] _ _ _ e z _ (c .before .before .before .before .search .ensures) (c .before .before .if2 .left), omega (arith, g .1 .within, g .1 .traced, c .before .if3 .left))
 
--- src/lib.rt:121:86
 work-add-t27 : (t : ℕ) → work-lts.Need-add-t27 (calls-work t) (work-at t) work.Post
 work-add-t27 t c = let g = c .before .before .before .before .before .before .before .before .before .before .before .before .before .before .before .before .settle .ensures .good (c .before .before .before .before .before .before .before .before .before .before .before .if1 .left) in omega (arith, g .1 .within, g .1 .few)
 
--- src/lib.rt:121:5
 work-children-requires : (t : ℕ) → work-lts.Need-children-requires (calls-work t) (work-at t) work.Post
 work-children-requires t c κs =
     let s = c .before .before .before .before .before .before .before .before .before .before .before .before .before .before .before .before .before .before .before .before .before .before in
@@ -224,15 +194,12 @@ work-children-requires t c κs =
     let n = c .before .before .before .before .before .before .before .if2 .left in
     (omega (arith, e .leads z .1, s .pre .0), (q .0, q .1, g .0, splits _ _ (q .0) _ _ _ [] _ _ _ e z _ f n, refl, split-fine _ _ (q .0) _ _ _ _ _ _ _ e z _ f n (c .before .before .before .before .before .before .if3 .left) _ (c .before .before .before .before .note-split .ensures) (q .4)))
 
--- src/lib.rt:101:1
 work-same-length-5 : (t : ℕ) → work-lts.Need-same-length-5 (calls-work t) (work-at t) work.Post
 work-same-length-5 t c = search needs
 
--- src/lib.rt:101:1
 work-same-length-6 : (t : ℕ) → work-lts.Need-same-length-6 (calls-work t) (work-at t) work.Post
 work-same-length-6 t c = search needs
 
--- src/lib.rt:101:1
 work-returns-4 : (t : ℕ) → work-lts.Need-returns-4 (calls-work t) (work-at t) work.Post
 work-returns-4 t c =
     let q = c .before .before .before .before .before .before .before .before .before .before .before .before .before .before .before .before .before .before .before .before .before .before .before .before .before .before .before .pre .1 in

@@ -15,43 +15,38 @@ use Rattle.search.proofs.search.Reads as search-reads
 use Rattle.step.proofs.child.Reads as child-reads
 use Rattle.step.proofs.concerned.Reads as concerned-reads
 
--- src/lib.rt:40:9
 search-requires : tie.Need-search-requires
 search-requires c κs = search needs
 
--- src/lib.rt:43:9
 returns : tie.Need-returns
 returns c =
     let s = c .before .before .before .before .before in
     infers-none _ _ (s .pre .0) _ _ (s .pre .2) _ _ (s .pre .3) _ (c .before .search .ensures) (c .if1 .taken)
 
--- src/lib.rt:48:9
+ended-requires : tie.Need-ended-requires
+ended-requires c κs = search needs
+
 returns-2 : tie.Need-returns-2
 returns-2 c =
-    let s = c .before .before .before .before .before .before in
-    infers-spent _ _ (s .pre .0) _ _ (s .pre .2) _ _ (s .pre .3) _ (c .before .before .search .ensures) (c .before .if1 .left) (c .if2 .taken)
+    let s = c .before .before .before .before .before .before .before in
+    rw (c .ended .ensures) (infers-spent _ _ (s .pre .0) _ _ (s .pre .2) _ _ (s .pre .3) _ (c .before .before .before .search .ensures) (c .before .before .if1 .left) (c .before .if2 .taken))
 
--- src/lib.rt:53:34
 cast-decode : tie.Need-cast-decode
 cast-decode c = search needs
 
--- src/lib.rt:53:9
 decode-requires : tie.Need-decode-requires
 decode-requires c κs =
     let s = c .before .before .before .before .before .before in
     (s .pre .0, place-there _ _ (s .pre .0) _ (c .before .before .search .ensures .within (c .before .if1 .left) .in-problem))
 
--- src/lib.rt:54:47
 cast-list : tie.Need-cast-list
 cast-list c = search needs
 
--- src/lib.rt:54:9
 list-requires : tie.Need-list-requires
 list-requires c κs =
     let s = c .before .before .before .before .before .before .before in
     (s .pre .0, place-there _ _ (s .pre .0) _ (c .before .before .before .search .ensures .within (c .before .before .if1 .left) .in-problem), s .pre .1, c .decode .ensures)
 
--- src/lib.rt:55:9
 concerned-requires : tie.Need-concerned-requires
 concerned-requires c κs =
     let s = c .before .before .before .before .before .before .before .before in
@@ -59,7 +54,6 @@ concerned-requires c κs =
     let u = c .list .ensures in
     (s .pre .2, u .handled, ruled _ _ (s .pre .0) _ (s .pre .2) _ _ w _ _ u, entry-there _ _ (s .pre .0) _ (s .pre .2) _ _ w _ _ u, λ n. root-there _ _ (s .pre .0) _ (s .pre .2) _ _ w _ _ u n .1)
 
--- src/lib.rt:56:9
 child-requires : tie.Need-child-requires
 child-requires c κs =
     let s = c .before .before .before .before .before .before .before .before .before in
@@ -74,34 +68,30 @@ child-requires c κs =
       omega (arith, single _ _ (s .pre .0) _ (s .pre .2) _ (f .within n) _ _ u n (f .first-is) _ (c .concerned .ensures)),
     )
 
--- src/lib.rt:57:33
 add-t23 : tie.Need-add-t23
 add-t23 c = let g = c .before .before .before .before .before .before .before .before .before .before .pre .3 in omega (arith, g .within, g .few)
 
--- src/lib.rt:59:9
 note-requires : tie.Need-note-requires
 note-requires c κs = let g = c .before .before .before .before .before .before .before .before .before .before .before .before .pre .3 in omega (arith, g .within, g .traced, c .before .before .before .before .before .before .if2 .left)
 
--- src/lib.rt:60:9
+ended-requires-2 : tie.Need-ended-requires-2
+ended-requires-2 c κs = search needs
+
 same-length : tie.Need-same-length
 same-length c = search needs
 
--- src/lib.rt:60:9
 returns-3 : tie.Need-returns-3
 returns-3 c =
-    let s = c .before .before .before .before .before .before .before .before .before .before .before .before .before .before .before in
-    let n = c .before .before .before .before .before .before .before .before .before .before .if1 .left in
-    infers-closed _ _ (s .pre .0) _ _ (s .pre .2) _ _ (s .pre .3) _ (c .before .before .before .before .before .before .before .before .before .before .before .search .ensures) n _ _ (c .before .before .before .before .before .before .before .list .ensures) _ (c .before .before .before .before .before .before .concerned .ensures) _ (c .before .before .before .before .before .child .ensures) (omega (arith, s .pre .3 .within, c .before .before .before .before .before .before .before .before .before .if2 .left)) (c .before .before .before .before .if3 .taken) _ (c .before .before .note .ensures)
+    let s = c .before .before .before .before .before .before .before .before .before .before .before .before .before .before .before .before in
+    let n = c .before .before .before .before .before .before .before .before .before .before .before .if1 .left in
+    rw (c .ended2 .ensures) (infers-closed _ _ (s .pre .0) _ _ (s .pre .2) _ _ (s .pre .3) _ (c .before .before .before .before .before .before .before .before .before .before .before .before .search .ensures) n _ _ (c .before .before .before .before .before .before .before .before .list .ensures) _ (c .before .before .before .before .before .before .before .concerned .ensures) _ (c .before .before .before .before .before .before .child .ensures) (omega (arith, s .pre .3 .within, c .before .before .before .before .before .before .before .before .before .before .if2 .left)) (c .before .before .before .before .before .if3 .taken) _ (c .before .before .before .note .ensures))
 
--- src/lib.rt:62:5
 note-requires-2 : tie.Need-note-requires-2
 note-requires-2 c κs = let g = c .before .before .before .before .before .before .before .before .before .before .before .before .pre .3 in omega (arith, g .within, g .traced, c .before .before .before .before .before .before .if2 .left)
 
--- src/lib.rt:36:1
 same-length-2 : tie.Need-same-length-2
 same-length-2 c = search needs
 
--- src/lib.rt:36:1
 returns-4 : tie.Need-returns-4
 returns-4 c =
     let s = c .before .before .before .before .before .before .before .before .before .before .before .before .before .before .before .before in
@@ -114,6 +104,7 @@ infer-spec =
     (tie.spec
     search-requires
     returns
+    ended-requires
     returns-2
     cast-decode
     decode-requires
@@ -123,6 +114,7 @@ infer-spec =
     child-requires
     add-t23
     note-requires
+    ended-requires-2
     same-length
     returns-3
     note-requires-2

@@ -14,23 +14,18 @@ use Rattle.output.proofs.note.Reads as note-reads
 use Rattle.step.proofs.concerned.Reads as concerned-reads
 use Rattle.step.proofs.count.Reads as count-reads
 
--- src/lib.rt:93:34
 cast-decode : tie.Need-cast-decode
 cast-decode c = search needs
 
--- src/lib.rt:93:9
 decode-requires : tie.Need-decode-requires
 decode-requires c κs = let s = c .before .before .before in (s .pre .0, place-there _ _ (s .pre .0) _ (s .pre .3 .within .in-problem))
 
--- src/lib.rt:94:47
 cast-list : tie.Need-cast-list
 cast-list c = search needs
 
--- src/lib.rt:94:9
 list-requires : tie.Need-list-requires
 list-requires c κs = let s = c .before .before .before .before in (s .pre .0, place-there _ _ (s .pre .0) _ (s .pre .3 .within .in-problem), s .pre .1, c .decode .ensures)
 
--- src/lib.rt:95:9
 concerned-requires : tie.Need-concerned-requires
 concerned-requires c κs =
     let s = c .before .before .before .before .before in
@@ -38,7 +33,6 @@ concerned-requires c κs =
     let u = c .list .ensures in
     (s .pre .2, u .handled, ruled _ _ (s .pre .0) _ (s .pre .2) _ _ w _ _ u, entry-there _ _ (s .pre .0) _ (s .pre .2) _ _ w _ _ u, λ n. root-there _ _ (s .pre .0) _ (s .pre .2) _ _ w _ _ u n .1)
 
--- src/lib.rt:96:9
 count-requires : tie.Need-count-requires
 count-requires c κs =
     let s = c .before .before .before .before .before .before in
@@ -46,15 +40,12 @@ count-requires c κs =
     let u = c .before .list .ensures in
     (s .pre .2, u .handled, ruled _ _ (s .pre .0) _ (s .pre .2) _ _ w _ _ u, entry-there _ _ (s .pre .0) _ (s .pre .2) _ _ w _ _ u, λ n. root-there _ _ (s .pre .0) _ (s .pre .2) _ _ w _ _ u n .0)
 
--- src/lib.rt:97:5
 note-requires : tie.Need-note-requires
 note-requires c κs = search needs
 
--- src/lib.rt:85:1
 same-length : tie.Need-same-length
 same-length c = search needs
 
--- src/lib.rt:85:1
 returns : tie.Need-returns
 returns c =
     let s = c .before .before .before .before .before .before .before .before .before .before .before in

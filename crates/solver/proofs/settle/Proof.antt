@@ -17,27 +17,21 @@ Inv-loop problem numbers tab budget trace₀ at₀ counts₀ trace at counts =
 abbrev μ-loop : tie.MeasureT-loop
 μ-loop problem numbers tab budget trace₀ at₀ counts₀ trace at counts = remaining problem tab at
 
--- src/lib.rt:74:5
 loop-holds : tie.Need-loop-holds Inv-loop μ-loop
 loop-holds c = let s = c .before .before .before in (since-begin _ _ _ _ _ _ (s .pre .2) (s .pre .3), refl)
 
--- src/lib.rt:75:13
 infer-requires : tie.Need-infer-requires Inv-loop μ-loop
 infer-requires c κs = let s = c .before .before .before .before .before in let v = c .before .loop .inv in (s .pre .0, s .pre .1, v .0 .good, v .0 .going)
 
--- src/lib.rt:77:13
 same-length : tie.Need-same-length Inv-loop μ-loop
 same-length c = search needs
 
--- src/lib.rt:77:13
 returns : tie.Need-returns Inv-loop μ-loop
 returns c = let v = c .before .before .before .before .before .before .loop .inv in since-ends _ _ _ _ _ _ _ _ _ (v .0) _ _ (c .before .before .before .before .infer .ensures) (c .if1 .taken)
 
--- src/lib.rt:74:5
 loop-less : tie.Need-loop-less Inv-loop μ-loop
 loop-less c = c .before .before .before .before .before .before .infer .ensures .went (c .before .before .if1 .left) .1
 
--- src/lib.rt:74:5
 loop-again : tie.Need-loop-again Inv-loop μ-loop
 loop-again c = let v = c .before .before .before .before .before .before .before .before .loop .inv in (since-again _ _ _ _ _ _ _ _ _ (v .0) _ _ (c .before .before .before .before .before .before .infer .ensures) (c .before .before .if1 .left), search needs)
 

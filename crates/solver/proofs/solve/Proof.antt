@@ -9,30 +9,24 @@ use Rattle.solver.proofs.solve.Lts as lts
 use Rattle.branch.proofs.Branch.start.Reads as start-reads
 use Rattle.solver.proofs.work.Reads as work-reads
 
--- src/lib.rt:155:9
 start-requires : tie.Need-start-requires
 start-requires c κs = search needs
 
--- src/lib.rt:157:19
 slice-aggregate-work : tie.Need-slice-aggregate-work
 slice-aggregate-work c = search needs
 
--- src/lib.rt:157:5
 work-requires : tie.Need-work-requires
 work-requires c κs =
     let q = c .before .before .before .before .before .before .before .before .pre in
     let e = c .before .before .before .before .start .ensures in
     (q .0, start-numbers _ e, start-good _ (c .before .before .before .before .before .before .before .before .args .tab .constants) e, refl, begun-fine _ _ _ _ (q .1) (q .2), λ z. refl)
 
--- src/lib.rt:151:1
 same-length : tie.Need-same-length
 same-length c = search needs
 
--- src/lib.rt:151:1
 same-length-2 : tie.Need-same-length-2
 same-length-2 c = search needs
 
--- src/lib.rt:151:1
 returns : tie.Need-returns
 returns c =
     let q = c .before .before .before .before .before .before .before .before .before .before .before .before .before .pre in
