@@ -5,6 +5,7 @@ use mathlib.Core.Bool.{true, false, true≢false, false≢true}
 use mathlib.Core.Option.{Option, none, some}
 use mathlib.Core.List.{List}
 use Prim.Native.Nat.{ℕ, _<_}
+use Rattle.calculus.specs.Lists.{upFrom}
 use Rattle.calculus.specs.Terms.{Term, SetVar, termsFrom}
 use Rattle.calculus.specs.Branch as calculus
 use Rattle.calculus.specs.Branch.{Fact, In, Out, known, assert}
@@ -28,6 +29,11 @@ assert-any-out k l b t A = refl
 
 pub start-good : (b : Branch) (k : ℕ) → held b ≡ calculus.start 64 → Good k b
 start-good b k e = subst (WellFormed 64 (termsFrom 0 k)) (sym e) (start-fit 64 (termsFrom 0 k))
+
+-- at the start each term is its own parent
+pub start-numbers : (b : Branch) → held b ≡ calculus.start 64 → b .parents ≡ upFrom 0 64
+unfolding calculus.start
+start-numbers b e = ap (λ (x : calculus.Branch). x .parents) e
 
 -- an answer with no conflict has the branch that asserting gives
 pub answered : (b : Branch) (o : Option calculus.Branch) → answer b o .conflict ≡ false → o ≡ some (held (answer b o .branch))

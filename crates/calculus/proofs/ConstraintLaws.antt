@@ -86,6 +86,25 @@ last-le (l ∷ ls) w last e = omega (arith, last-le ls (w + uses l) last (e .1))
 abbrev pub InScope : Problem → Constraint → Type 0
 InScope prob l = Refers (prob .constants) (nameable prob) (setCount prob) l
 
+-- a constraint says the same of values that agree where it can look
+module _ (prob : Problem) (v w : Valuation) (nums : (t : Term) → t .index < nameable prob → v .num t ≡ w .num t) (sets : (A : SetVar) → A .index < setCount prob → v .members A ≡ w .members A) where
+  images-same : (es : List Term) → Each (λ e. e .index < nameable prob) es → map (v .num) es ≡ map (w .num) es
+  images-same [] a = refl
+  images-same (e ∷ es) a = ap₂ (λ (x : ℤ) (y : List ℤ). x ∷ y) (nums e (a .0)) (images-same es (a .1))
+
+  meaning-same : (l : Constraint) → InScope prob l → Holds v l ≡ Holds w l
+  meaning-same (member t A) a = λ i. nums t (a .0) i ∈ sets A (a .1) i
+  meaning-same (nonmember t A) a = λ i. ¬ (nums t (a .0) i ∈ sets A (a .1) i)
+  meaning-same (same t u) a = λ i. nums t (a .0) i ≡ nums u (a .1) i
+  meaning-same (different t u) a = λ i. ¬ (nums t (a .0) i ≡ nums u (a .1) i)
+  meaning-same (relation k A B C) a = λ i. Relates k (sets A (a .0) i) (sets B (a .1) i) (sets C (a .2) i)
+  meaning-same (negation k A B C u) a = λ i. ¬ Relates (denies k) (sets A (a .0) i) (sets B (a .1) i) (sets C (subst (λ (X : SetVar). X .index < setCount prob) (sym (a .2)) (a .0)) i)
+  meaning-same (exactly A es) a = λ i. (x : ℤ) → x ∈ sets A (a .0) i ↔ x ∈ images-same es (a .1) i
+  meaning-same (interval A j k) a = λ i. (x : ℤ) → x ∈ sets A (a .0) i ↔ ((nums j (omega (arith, a .1)) i ≤ℤ x) × (x ≤ℤ nums k (omega (arith, a .2)) i))
+
+  pub holds-same : (l : Constraint) → InScope prob l → Holds v l → Holds w l
+  holds-same l a h = subst (λ (X : Type 0). X) (meaning-same l a) h
+
 module _ (prob : Problem) (acc : Valid prob) where
   abbrev K : ℕ
   K = length (prob .constants)
@@ -164,21 +183,8 @@ module _ (prob : Problem) (acc : Valid prob) where
     num-any : (u w : Term → ℤ) (t : ℕ) → t < nameable prob → values prob g u .num (term t) ≡ values prob g w .num (term t)
     num-any u w t l = rw (lt-ltb t (nameable prob) l)
 
-    nums-any : (u w : Term → ℤ) (es : List Term) → Each (λ e. e .index < nameable prob) es → map (values prob g u .num) es ≡ map (values prob g w .num) es
-    nums-any u w [] a = refl
-    nums-any u w (e ∷ es) a = ap₂ (λ (x : ℤ) (y : List ℤ). x ∷ y) (num-any u w (e .index) (a .0)) (nums-any u w es (a .1))
-
     pub holds-any : (u w : Term → ℤ) (l : Constraint) → InScope prob l → Holds (values prob g u) l → Holds (values prob g w) l
-    holds-any u w (member t A) a h = subst (λ (x : ℤ). x ∈ g .members A) (num-any u w (t .index) (a .0)) h
-    holds-any u w (nonmember t A) a h = λ m. h (subst (λ (x : ℤ). x ∈ g .members A) (num-any w u (t .index) (a .0)) m)
-    holds-any u w (same t s) a h = num-any w u (t .index) (a .0) ∙ h ∙ num-any u w (s .index) (a .1)
-    holds-any u w (different t s) a h = λ e. h (num-any u w (t .index) (a .0) ∙ e ∙ num-any w u (s .index) (a .1))
-    holds-any u w (relation k A B C) a h = h
-    holds-any u w (negation k A B C x) a h = h
-    holds-any u w (exactly A es) a h = subst (λ (ys : List ℤ). (x : ℤ) → x ∈ g .members A ↔ x ∈ ys) (nums-any u w es (a .1)) h
-    holds-any u w (interval A i j) a h =
-        subst (λ (y : ℤ). (x : ℤ) → x ∈ g .members A ↔ ((y ≤ℤ x) × (x ≤ℤ values prob g w .num j))) (num-any u w (i .index) (omega (arith, a .1)))
-        (subst (λ (z : ℤ). (x : ℤ) → x ∈ g .members A ↔ ((values prob g u .num i ≤ℤ x) × (x ≤ℤ z))) (num-any u w (j .index) (omega (arith, a .2))) h)
+    holds-any u w = holds-same prob (values prob g u) (values prob g w) (λ t l. num-any u w (t .index) l) (λ A l. refl)
 
     -- a number for each witness: one at which the relation fails
     abbrev Broken : (Term → ℤ) → Constraint → Type 0

@@ -46,6 +46,7 @@ pub mod ModelValues
 pub mod Models
 pub mod CheckLaws
 pub mod Checking
+pub mod ModelsPass
 pub mod Low
 pub mod Sizes
 pub mod StepBounds

@@ -30,7 +30,7 @@ module _ (prob : Problem) (acc : Valid prob) (r : List ℕ) (s : Shape prob r) w
   K = constantCount prob
 
   -- the root that the record gives
-  shown : (t : ℕ) → t < termCount prob → recordRoot r (term t) .index ≡ getD r (3 * t) 0
+  pub shown : (t : ℕ) → t < termCount prob → recordRoot r (term t) .index ≡ getD r (3 * t) 0
   shown t l = any-default r (3 * t) t 0 (omega (arith, s .long))
 
   root-low : (t : ℕ) → t < termCount prob → getD r (3 * t) 0 ≤ t
@@ -66,7 +66,7 @@ module _ (prob : Problem) (acc : Valid prob) (r : List ℕ) (s : Shape prob r) w
 
   -- ---- members
 
-  abbrev listed? : SetVar → Term → Bool
+  abbrev pub listed? : SetVar → Term → Bool
   listed? A t = eqb (recordRoot r t .index) (t .index) && bit (getD r (3 * t .index + 1) 0) (A .index)
 
   abbrev Member : SetVar → ℤ → Type 0

@@ -14,6 +14,7 @@ use Rattle.calculus.proofs.Models.{models, verdicts}
 use Rattle.calculus.proofs.WorkOrder.{short-paths}
 use Rattle.calculus.proofs.ReadAssignment.{reads-assignment}
 use Rattle.calculus.proofs.Checking.{checks}
+use Rattle.calculus.proofs.ModelsPass.{models-pass}
 
 pub demands : Demands
 demands = record {
@@ -38,4 +39,5 @@ demands = record {
   short-paths = short-paths;
   reads-assignment = reads-assignment;
   checks = checks;
+  models-pass = models-pass;
 }

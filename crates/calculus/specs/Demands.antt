@@ -11,12 +11,12 @@ use Rattle.calculus.specs.Lists.{Each, Some, picked, bit}
 use Rattle.calculus.specs.Terms.{Term, SetVar, term, setVar}
 use Rattle.calculus.specs.Meaning.{Constraint, member, _∈_, Holds}
 use Rattle.calculus.specs.Problem.{Problem, constantCount, termCount, setCount, constantTerms, Assignment, values, Satisfies}
-use Rattle.calculus.specs.Encoding.{Bytes, Written, Handed, WrittenAssignment}
+use Rattle.calculus.specs.Encoding.{Bytes, Written, Handed, encodeHanded, WrittenAssignment}
 use Rattle.calculus.specs.Reading.{Parsed, parsed, refused, read}
 use Rattle.calculus.specs.Questions.{Questions}
 use Rattle.calculus.specs.Branch.{Branch, start, rootAt, Fact, known, assert, assertAll}
 use Rattle.calculus.specs.Search.{distinct, Next, solved, step}
-use Rattle.calculus.specs.Forms.{recordOf, listedForms, Agrees, SatisfiesForm, modelNumber, model}
+use Rattle.calculus.specs.Forms.{recordOf, listedForms, Agrees, SatisfiesForm, modelNumber, model, handedModel}
 use Rattle.calculus.specs.Check.{readAssignment, assignmentOf}
 use Rattle.calculus.specs.Calls.{Verdict, FORMS, FALSE, SPENT, NOROOM, Answer, refusal, ended, asked, call, answerNumber, answerWord, Checked, declined, HOLDS, FAILS, check, checkedNumber, checkWord}
 use Rattle.calculus.specs.Order.{KnownIn, KnownOut, OneClass, Then, Conflicts, Ranged, Reached, Recorded, Once, Place, Before, nextOf, Enabled, Path, Progress, unbegun, Works}
@@ -192,6 +192,12 @@ Checks = (bytes : List ℕ) (assignment : List ℕ) →
     ↔ ((i < length (prob .constraints)) × ¬ Holds (values prob (assignmentOf g) (λ _. pos 0)) (getD (prob .constraints) i (member (term 0) (setVar 0)))
     × ((j : ℕ) → j < i → Holds (values prob (assignmentOf g) (λ _. pos 0)) (getD (prob .constraints) j (member (term 0) (setVar 0))))))))
 
+-- Every listed form's model, written as bytes, is an assignment that the check answers HOLDS for.
+abbrev pub ModelsPass : Type 0
+ModelsPass = (bytes : List ℕ) (budget : ℕ) (forms trace : List ℕ) (prob : Problem) → read bytes ≡ parsed prob →
+    (v : Verdict) (n c : ℕ) → call bytes budget forms trace .answer ≡ ended v n c →
+    Each (λ r. let g : Handed = handedModel prob r in Bytes (encodeHanded g) × WrittenAssignment prob (encodeHanded g) g × (check bytes (encodeHanded g) ≡ HOLDS)) (listedForms (3 * termCount prob) c (call bytes budget forms trace .forms))
+
 -- ---- all of it
 pub record Demands : Type 0 where
   pub reads : Reads
@@ -215,3 +221,4 @@ pub record Demands : Type 0 where
   pub short-paths : ShortPaths
   pub reads-assignment : ReadsAssignment
   pub checks : Checks
+  pub models-pass : ModelsPass

@@ -7,11 +7,12 @@ use Prim.Native.Nat.{ℕ, zero, suc, _+_, _*_, _<_}
 use lib.ListN.{length, getD, take, drop}
 use lib.Dec.{eqb}
 use lib.IntN.{ℤ, pos}
-use Rattle.calculus.specs.Lists.{bit, keep, first, Each}
-use Rattle.calculus.specs.Terms.{Term, SetVar, term, termsFrom}
+use Rattle.calculus.specs.Lists.{upFrom, bit, keep, first, Each}
+use Rattle.calculus.specs.Terms.{Term, SetVar, term, setVar, termsFrom}
 use Rattle.calculus.specs.Meaning.{_∈_, Valuation, Holds}
 use Rattle.calculus.specs.Branch.{Branch, rootAt}
-use Rattle.calculus.specs.Problem.{Problem, constantCount, termCount, constantTerms, Assignment, values}
+use Rattle.calculus.specs.Problem.{Problem, constantCount, termCount, setCount, constantTerms, Assignment, values}
+use Rattle.calculus.specs.Encoding.{Handed}
 
 -- the record of a branch from term number t on: root, inside mask and outside mask of each of n terms; a term shows its root's masks
 abbrev pub recordFrom : Branch → ℕ → ℕ → List ℕ
@@ -59,4 +60,11 @@ abbrev pub model : Problem → List ℕ → Assignment
 model prob r = record {
   number = λ i. modelNumber prob r (term (constantCount prob + i));
   members = λ A. map (modelNumber prob r) (keep (λ (t : Term). eqb (recordRoot r t .index) (t .index) && bit (getD r (3 * t .index + 1) 0) (A .index)) (termsFrom 0 (termCount prob)));
+}
+
+-- the model as an assignment to hand in: the variables' numbers in order, then each set's members
+abbrev pub handedModel : Problem → List ℕ → Handed
+handedModel prob r = record {
+  numbers = map (model prob r .number) (upFrom 0 (length (prob .variables)));
+  sets = map (λ A. model prob r .members (setVar A)) (upFrom 0 (setCount prob));
 }

@@ -1,3 +1,5 @@
 pub mod AnswerWords
 pub mod Contracted
 pub mod Calling
+pub mod CheckedCall
+pub mod CheckCalling

@@ -1,18 +1,23 @@
--- The contract of fuselinda_run, over the bytes of the call, its answer word, and the buffers as it leaves them.
+-- The contracts of the two calls, over their bytes, their answer word, and the buffers as they leave them.
 use mathlib.Core.Path.{_≡_}
 use mathlib.Core.Logic.{_↔_, _⊎_}
 use mathlib.Core.Bool.{cond}
 use mathlib.Core.List.{List, [], _∷_}
-use Prim.Native.Nat.{ℕ, suc, _+_, _*_, _/_, _%_, _≤_}
-use lib.ListN.{length, take}
+use Prim.Native.Nat.{ℕ, suc, _+_, _*_, _/_, _%_, _≤_, _<_}
+use lib.ListN.{length, getD, take}
+use lib.IntN.{pos}
 use lib.Dec.{eqb}
 use Rattle.calculus.specs.Lists.{Each, Some}
+use Rattle.calculus.specs.Terms.{term, setVar}
+use Rattle.calculus.specs.Meaning.{member, Holds}
 use Rattle.calculus.specs.Branch.{start}
 use Rattle.calculus.specs.Problem.{Problem, termCount, setCount, Assignment, values, Satisfies}
 use Rattle.calculus.specs.Reading.{parsed, read}
 use Rattle.calculus.specs.Forms.{listedForms, Agrees, SatisfiesForm, modelNumber, model}
 use Rattle.calculus.specs.Run.{End, DONE, SPENT, NOROOM}
-use Rattle.calculus.specs.Calls.{Verdict, call, answerWord, verdictNumber}
+use Rattle.calculus.specs.Encoding.{Handed}
+use Rattle.calculus.specs.Check.{readAssignment, assignmentOf}
+use Rattle.calculus.specs.Calls.{Verdict, call, answerWord, verdictNumber, Checked, check, checkWord, checkedNumber}
 use Rattle.calculus.specs.Order.{Progress, unbegun, Works}
 use Rattle.calculus.specs.Demands.{Shape, Valued}
 
@@ -57,3 +62,22 @@ pub record RunContract (bytes : List ℕ) (budget : ℕ) (forms trace : List ℕ
   pub order-of-work : ¬ (verdictIn word ≡ 0) → (prob : Problem) × (read bytes ≡ parsed prob) × (v : Verdict) × (verdictIn word ≡ verdictNumber v) × (ps : List ℕ)
       × Works prob budget (length forms) ((0, start (termCount prob)) ∷ []) unbegun v (progressIn prob word forms′ trace′) ps
       × ((w : Verdict) (e : Progress) (qs : List ℕ) → Works prob budget (length forms) ((0, start (termCount prob)) ∷ []) unbegun w e qs → (w ≡ v) × (e ≡ progressIn prob word forms′ trace′) × (qs ≡ ps))
+
+-- ---- the assignment check
+
+-- the refusal number, or the number of the constraint that fails
+abbrev pub numberIn : ℕ → ℕ
+numberIn word = word / 256 % 256
+
+-- constraint i is true of what was handed in
+abbrev pub TrueAt : Problem → Handed → ℕ → Type 0
+TrueAt prob g i = Holds (values prob (assignmentOf g) (λ _. pos 0)) (getD (prob .constraints) i (member (term 0) (setVar 0)))
+
+pub record CheckContract (bytes assignment : List ℕ) (word : ℕ) : Type 0 where
+  -- The word is the definition's.
+  pub determined : word ≡ checkWord (check bytes assignment)
+  -- HOLDS is said exactly where the bytes are a problem, the assignment is one for it, and it satisfies the problem.
+  pub holds : (verdictIn word ≡ checkedNumber Checked.HOLDS) ↔ ((prob : Problem) × (g : Handed) × (read bytes ≡ parsed prob) × (readAssignment prob assignment ≡ parsed g) × Satisfies prob (assignmentOf g))
+  -- FAILS names a constraint that is false of the assignment, and all lower ones are true of it.
+  pub fails : verdictIn word ≡ checkedNumber (Checked.FAILS 0) → (prob : Problem) × (g : Handed) × (read bytes ≡ parsed prob) × (readAssignment prob assignment ≡ parsed g)
+      × (numberIn word < length (prob .constraints)) × ¬ TrueAt prob g (numberIn word) × ((j : ℕ) → j < numberIn word → TrueAt prob g j)

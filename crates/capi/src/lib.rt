@@ -1,11 +1,13 @@
 // The calls that the tablet's program makes. Each answers in one word; docs/ANSWER.md has its layout.
+use checker::lowest;
+use handed::lay_out;
 use output::Counts;
 use problem::read;
 use solver::solve;
 ghost use mathlib.Core.Path.{_≡_};
 ghost use Prim.Native.Nat.{_≤_};
 ghost use Rattle.calculus.specs.Calls.{refusal, ended, verdictOf, answerWord};
-ghost use Rattle.capi.specs.Contract.{endOf, RunContract};
+ghost use Rattle.capi.specs.Contract.{endOf, RunContract, CheckContract};
 
 // The word of a refusal.
 fn declined(n: u8) -> u64
@@ -57,4 +59,25 @@ pub extern "C" fn fuselinda_run(
         return declined(13);
     }
     ended(solve(problem, tab, steps, forms, trace))
+}
+
+// Checks an assignment that was worked by hand.
+#[no_mangle]
+pub extern "C" fn fuselinda_check(problem: &[u8], assignment: &[u8]) -> u64
+    ensures { λ r. ⌜ CheckContract (now (problem .entry)) (now (assignment .entry)) r ⌝ }
+{
+    let tab = read(problem);
+    let question = tab.refusal;
+    if question != 0 {
+        return declined(question);
+    }
+    let at = lay_out(assignment, tab.variables, tab.sets);
+    if !at.ok {
+        return declined(14);
+    }
+    let i = lowest(problem, tab, assignment, at);
+    if i < tab.constraints {
+        return 6 + 256 * (i as u64);
+    }
+    5
 }

@@ -280,3 +280,8 @@ opened-sizes bs tab o =
     let r = opened bs tab o in
     let v = read-valid bs (r .prob) (r .reads) in
     rw (r .shows) (v .few-constraints, v .few-sets, v .few-terms)
+
+-- and the count of its constraints
+pub constraint-count : (bs : List ℕ) (tab : Table) → Opened bs tab → tab .constraints ≡ length (constraintsOf (read bs))
+unfolding problemTable constraintsOf
+constraint-count bs tab o = let r = opened bs tab o in rw (r .reads) (ap (λ (t : Table). t .constraints) (r .shows))

@@ -24,7 +24,7 @@ pub struct Parsed {
 }
 
 // Two bytes, low first, 32,768 above their signed value: the order is the same, and there is no sign.
-fn raised(problem: &[u8], at: usize) -> u32
+pub fn raised(problem: &[u8], at: usize) -> u32
     requires { ⌜ at + 1 < length (now problem) ⌝ }
     ensures { λ r. ⌜ r ≡ raisedAt (now (problem .entry)) at ⌝ }
 {

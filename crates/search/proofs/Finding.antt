@@ -19,7 +19,7 @@ use Rattle.calculus.proofs.Bools.{map-Each}
 use Rattle.calculus.proofs.RuleLaws.{ConstraintIn}
 use Rattle.problem.specs.declared.Table.{Table}
 use Rattle.problem.specs.Table.{Opened, problemTable, constraintsOf, constraintOf, noConstraint}
-use Rattle.problem.proofs.Access.{opened, opened-sizes}
+use Rattle.problem.proofs.Access.{opened, opened-sizes, constraint-count}
 use Rattle.places.specs.Places.{propagationSpan, splitSpan, spanOf, InSpan, RuleOf, entriesOf, moveAt, firstAt}
 use Rattle.places.proofs.Offered.{position-of}
 use Rattle.constraints.specs.declared.Constraint.{Constraint}
@@ -77,11 +77,6 @@ same-span true es (Exactly A) = refl
 same-span split es (Interval A x y) = refl
 
 -- ---- the problem
-
--- the table's count is that of the constraints
-pub constraint-count : (bs : List ℕ) (tab : Table) → Opened bs tab → tab .constraints ≡ length (constraintsOf (read bs))
-unfolding problemTable constraintsOf
-constraint-count bs tab o = let r = opened bs tab o in rw (r .reads) (ap (λ (t : Table). t .constraints) (r .shows))
 
 -- the entries are terms below 64
 entries-in : (l : calculus.Constraint) → ConstraintIn 64 8 l → Each (λ e. e .index < 64) (entriesOf l)

@@ -15,7 +15,7 @@ use Rattle.calculus.proofs.ReadValid.{read-valid}
 use Rattle.calculus.proofs.Sequences.{terms-each}
 use Rattle.problem.specs.declared.Table.{Table}
 use Rattle.problem.specs.Table.{problemTable, Opened, constraintsOf}
-use Rattle.problem.proofs.Access.{opened, opened-sizes}
+use Rattle.problem.proofs.Access.{opened, opened-sizes, constraint-count}
 use Rattle.branch.proofs.Restricting.{Among}
 use Rattle.solver.specs.Outcomes.{constants, constraints}
 
@@ -34,9 +34,5 @@ module _ (bs : List ℕ) (tab : Table) (o : Opened bs tab) where
   pub terms-few : tab .terms ≤ 64
   terms-few = opened-sizes bs tab o .2
 
-  pub counted : tab .constraints ≡ length (constraints bs tab)
-  unfolding problemTable constraintsOf
-  counted = let r = opened bs tab o in rw (r .shows, r .reads) refl
-
   pub place-there : (i : ℕ) → i < length (constraints bs tab) → i < tab .constraints
-  place-there i l = omega (arith, counted)
+  place-there i l = omega (arith, constraint-count bs tab o)

@@ -4,7 +4,6 @@ use mathlib.Core.List.{List}
 use Prim.Native.Nat.{ℕ, suc, _*_, _≤_}
 use native.Mathlib.Omega.{arith}
 use lib.ListN.{length}
-use Rattle.calculus.specs.Lists.{upFrom}
 use Rattle.calculus.specs.Branch as calculus
 use Rattle.calculus.specs.Log.{log}
 use Rattle.calculus.specs.Problem.{Problem, termCount, setCount, constantTerms}
@@ -42,11 +41,6 @@ module _ (bs : List ℕ) (tab : Table) (o : Opened bs tab) (budget : ℕ) (b : B
     where
       parsed-same : (x y : Problem) → parsed x ≡ parsed y → x ≡ y
       parsed-same x y z = cc
-
--- at the start each term is its own parent
-pub start-numbers : (b : Branch) → held b ≡ calculus.start 64 → b .parents ≡ upFrom 0 64
-unfolding calculus.start
-start-numbers b e = ap (λ (x : calculus.Branch). x .parents) e
 
 pub begun-fine : (n budget : ℕ) (F T : List ℕ) → budget ≤ 10000 → 4 * budget ≤ length T → Fine n budget (begun F T)
 begun-fine n budget F T h l = record { within = omega arith; few = h; traced = l; written = omega arith }

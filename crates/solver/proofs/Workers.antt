@@ -1,7 +1,7 @@
 -- The two workers: what a branch comes to, by its propagation and its split, and what the children of a split come to.
 use mathlib.Core.Path.{_≡_, refl, sym, ap, _∙_, subst}
 use mathlib.Core.Logic.{inr}
-use mathlib.Core.Bool.{Bool, true, false, not, true≢false, false≢true}
+use mathlib.Core.Bool.{Bool, true, false}
 use mathlib.Core.Option.{Option, none, some}
 use mathlib.Core.List.{List, [], _∷_, map}
 use Prim.Native.Nat.{ℕ, zero, suc, _+_, _*_, _-_, _<_, _≤_}
@@ -51,14 +51,6 @@ listed-trace n r c d F G e T = go (leb (3 * n * c .forms + 3 * n) (length F)) re
     go : (t : Bool) → leb (3 * n * c .forms + 3 * n) (length F) ≡ t → state d G T ≡ listed n r (state c F T)
     go true q = let x = rw q at e in rw q (ap (λ (s : State). state (s .counts) (s .forms) T) x)
     go false q = let x = rw q at e in rw q (ap (λ (s : State). state (s .counts) (s .forms) T) x)
-
-pub not-true : {x : Bool} → not x ≡ true → x ≡ false
-not-true {x = true} e = absurd (false≢true e)
-not-true {x = false} e = refl
-
-pub not-false : {x : Bool} → not x ≡ false → x ≡ true
-not-false {x = true} e = refl
-not-false {x = false} e = absurd (true≢false e)
 
 pub same-room : (n f g m : ℕ) → f ≡ g → 3 * n * g ≤ m → 3 * n * f ≤ m
 same-room n f g m e l = rw e l

@@ -1,10 +1,7 @@
 -- A row of a table of examples: what is handed in and what is expected of it, and what the definitions give.
-use mathlib.Core.List.{List, [], _∷_, _++_, map}
+use mathlib.Core.List.{List, [], _∷_, _++_}
 use Prim.Native.Nat.{ℕ, zero, suc, _%_, _/_}
-use lib.ListN.{length, replicate}
-use Rattle.calculus.specs.Lists.{upFrom}
-use Rattle.calculus.specs.Terms.{setVar}
-use Rattle.calculus.specs.Problem.{Problem, setCount, Assignment}
+use lib.ListN.{replicate}
 use Rattle.calculus.specs.Encoding.{Handed}
 use Rattle.calculus.specs.Reading.{Parsed, parsed, _>>=_, ask, byte, bytes, readConstraints, readSets, readVariables, readConstants, read}
 use Rattle.calculus.specs.Search.{next}
@@ -38,10 +35,6 @@ expected (run problem budget formLength traceLength answer records trace) = ofRu
 expected (check problem assignment answer) = ofCheck answer
 expected (model problem form values) = ofModel (parsed values)
 
--- an assignment's values, in the order of the problem's variables and set variables
-abbrev pub valuesOf : Problem → Assignment → Handed
-valuesOf prob g = record { numbers = map (g .number) (upFrom 0 (length (prob .variables))); sets = map (λ A. g .members (setVar A)) (upFrom 0 (setCount prob)) }
-
 -- what the definitions give. Where this unfolds, all that they compute with does
 unfoldable pub given : Row → Result
 unfolding start assert next Run.run rootAt inside outside addInside addOutside merge torn _>>=_ ask byte bytes readConstraints readSets readVariables readConstants read asked call count numbers readAssignment Calls.check
@@ -49,7 +42,7 @@ given (run problem budget formLength traceLength answer records trace) = ofRun (
 given (check problem assignment answer) = ofCheck (Calls.check problem assignment)
 given (model problem form values) = ofModel (do
   prob ← read problem
-  parsed (valuesOf prob (Forms.model prob form)))
+  parsed (Forms.handedModel prob form))
 
 -- ---- long lists of bytes
 

@@ -6,8 +6,9 @@ use borrow.Author.Needs.{needs}
 use Rattle.calculus.specs.Terms.{term}
 use Rattle.calculus.specs.Reading.{read}
 use Rattle.problem.specs.Table.{constraintsOf}
+use Rattle.problem.proofs.Access.{constraint-count}
 use Rattle.guards.specs.Guarded.{branchOf, passes}
-use Rattle.search.proofs.Finding.{AtConstraint, AtRule, AtPosition, constraint-count, search-start, standing-64, entries-below, guarded-entry, rules-start, rule-here, positions-start, next-position, next-rule, next-constraint, search-over, search-hit}
+use Rattle.search.proofs.Finding.{AtConstraint, AtRule, AtPosition, search-start, standing-64, entries-below, guarded-entry, rules-start, rule-here, positions-start, next-position, next-rule, next-constraint, search-over, search-hit}
 use Rattle.search.proofs.search.Statement.{statement}
 use Rattle.search.proofs.search.Tie as tie
 

@@ -7,10 +7,11 @@ use lib.ListN.{length}
 use borrow.Author.Needs.{needs}
 use borrow.Fn.Kinds.{In}
 use borrow.Fn.PlainCycle.{Measures, is, falls, and}
+use Rattle.calculus.proofs.Bools.{not-t, not-f}
 use Rattle.solver.specs.Outcomes.{remaining}
 use Rattle.solver.proofs.Opening.{place-there, terms-few}
 use Rattle.solver.proofs.Taking.{ruled, entry-there, root-there}
-use Rattle.solver.proofs.Workers.{not-true, not-false, same-room, some-terms, works-form, works-spent, splits, split-fine, works-split, Worked, worked-begin, worked-done, worked-skip, worked-good, worked-less, worked-next, worked-stop}
+use Rattle.solver.proofs.Workers.{same-room, some-terms, works-form, works-spent, splits, split-fine, works-split, Worked, worked-begin, worked-done, worked-skip, worked-good, worked-less, worked-next, worked-stop}
 use Rattle.solver.proofs.children.Reads as children
 use Rattle.solver.proofs.children.Kinds as children-kinds
 use Rattle.solver.proofs.+children+work.Lts-children as children-lts
@@ -95,8 +96,8 @@ children-work-requires t c κs =
     let v = c .before .before .before .before .before .before .before .loop .inv in
     let e = c .before .before .before .before .before .child .ensures in
     let n = c .before .before .before .if1 .taken in
-    let less = worked-less _ _ (q .0) _ _ (q .2) _ (q .3) _ _ u _ _ _ _ _ _ _ (v .0) (omega (arith, c .before .before .before .before .before .before .loop-test .taken, c .before .before .before .before .before .before .before .before .slots .ensures)) _ e (not-true n) in
-    (omega (arith, less, c .before .before .before .before .before .before .before .before .before .before .before .before .before .before .before .pre .0), (q .0, q .1, worked-good _ _ (q .0) _ _ (q .2) _ (q .3) _ _ u _ _ _ _ _ _ _ (v .0) (omega (arith, c .before .before .before .before .before .before .loop-test .taken, c .before .before .before .before .before .before .before .before .slots .ensures)) _ e (not-true n), v .0 .on, v .0 .fine, λ z. absurd (some-terms _ _ (q .0) _ (q .2) _ (q .3) z)))
+    let less = worked-less _ _ (q .0) _ _ (q .2) _ (q .3) _ _ u _ _ _ _ _ _ _ (v .0) (omega (arith, c .before .before .before .before .before .before .loop-test .taken, c .before .before .before .before .before .before .before .before .slots .ensures)) _ e (not-t _ n) in
+    (omega (arith, less, c .before .before .before .before .before .before .before .before .before .before .before .before .before .before .before .pre .0), (q .0, q .1, worked-good _ _ (q .0) _ _ (q .2) _ (q .3) _ _ u _ _ _ _ _ _ _ (v .0) (omega (arith, c .before .before .before .before .before .before .loop-test .taken, c .before .before .before .before .before .before .before .before .slots .ensures)) _ e (not-t _ n), v .0 .on, v .0 .fine, λ z. absurd (some-terms _ _ (q .0) _ (q .2) _ (q .3) z)))
 
 children-same-length : (t : ℕ) → children-lts.Need-same-length (calls-children t) (children-at t) children.Post children-Inv-loop children-μ-loop
 children-same-length t c = search needs
@@ -109,7 +110,7 @@ children-returns t c =
     let q = c .before .before .before .before .before .before .before .before .before .before .before .before .before .before .before .before .before .before .before .before .before .before .pre .1 in
     let u = c .before .before .before .before .before .before .before .before .before .before .before .before .before .before .before .before .list .ensures in
     let v = c .before .before .before .before .before .before .before .before .before .before .before .before .before .before .loop .inv in
-    worked-stop _ _ (q .0) _ _ (q .2) _ (q .3) _ _ u _ _ _ _ _ _ _ (v .0) (omega (arith, c .before .before .before .before .before .before .before .before .before .before .before .before .before .loop-test .taken, c .before .before .before .before .before .before .before .before .before .before .before .before .before .before .before .slots .ensures)) _ (c .before .before .before .before .before .before .before .before .before .before .before .before .child .ensures) (not-true (c .before .before .before .before .before .before .before .before .before .before .if1 .taken)) _ _ _ (c .before .before .before .before .before .before .work .ensures) (c .if2 .taken)
+    worked-stop _ _ (q .0) _ _ (q .2) _ (q .3) _ _ u _ _ _ _ _ _ _ (v .0) (omega (arith, c .before .before .before .before .before .before .before .before .before .before .before .before .before .loop-test .taken, c .before .before .before .before .before .before .before .before .before .before .before .before .before .before .before .slots .ensures)) _ (c .before .before .before .before .before .before .before .before .before .before .before .before .child .ensures) (not-t _ (c .before .before .before .before .before .before .before .before .before .before .if1 .taken)) _ _ _ (c .before .before .before .before .before .before .work .ensures) (c .if2 .taken)
 
 children-add-k : (t : ℕ) → children-lts.Need-add-k (calls-children t) (children-at t) children.Post children-Inv-loop children-μ-loop
 children-add-k t c = search needs
@@ -123,8 +124,8 @@ children-loop-again t c =
     let u = c .before .before .before .before .before .before .list .ensures in
     let v = c .before .before .before .before .loop .inv in
     ⊎-elim
-    (λ w. (rw (w .11, w .12, w .13) (worked-next _ _ (q .0) _ _ (q .2) _ (q .3) _ _ u _ _ _ _ _ _ _ (v .0) (omega (arith, c .before .before .before .loop-test .taken, c .before .before .before .before .before .slots .ensures)) _ (c .before .before .child .ensures) (not-true (w .0 .taken)) _ _ _ (w .4 .ensures) (w .10 .left)), omega (arith, c .before .before .before .loop-test .taken), ap length (w .11) ∙ w .5 .given ∙ v .2, ap length (w .12) ∙ w .7 .given ∙ v .3))
-    (λ w. (rw (w .1, w .2, w .3) (worked-skip _ _ (q .0) _ _ (q .2) _ (q .3) _ _ u _ _ _ _ _ _ _ (v .0) (omega (arith, c .before .before .before .loop-test .taken, c .before .before .before .before .before .slots .ensures)) _ (c .before .before .child .ensures) (not-false (w .0 .left))), omega (arith, c .before .before .before .loop-test .taken), ap length (w .1) ∙ v .2, ap length (w .2) ∙ v .3))
+    (λ w. (rw (w .11, w .12, w .13) (worked-next _ _ (q .0) _ _ (q .2) _ (q .3) _ _ u _ _ _ _ _ _ _ (v .0) (omega (arith, c .before .before .before .loop-test .taken, c .before .before .before .before .before .slots .ensures)) _ (c .before .before .child .ensures) (not-t _ (w .0 .taken)) _ _ _ (w .4 .ensures) (w .10 .left)), omega (arith, c .before .before .before .loop-test .taken), ap length (w .11) ∙ w .5 .given ∙ v .2, ap length (w .12) ∙ w .7 .given ∙ v .3))
+    (λ w. (rw (w .1, w .2, w .3) (worked-skip _ _ (q .0) _ _ (q .2) _ (q .3) _ _ u _ _ _ _ _ _ _ (v .0) (omega (arith, c .before .before .before .loop-test .taken, c .before .before .before .before .before .slots .ensures)) _ (c .before .before .child .ensures) (not-f _ (w .0 .left))), omega (arith, c .before .before .before .loop-test .taken), ap length (w .1) ∙ v .2, ap length (w .2) ∙ v .3))
     (c .if1 .came)
 
 children-same-length-3 : (t : ℕ) → children-lts.Need-same-length-3 (calls-children t) (children-at t) children.Post children-Inv-loop children-μ-loop

@@ -1,7 +1,7 @@
 use borrow.Author.Needs.{needs}
 use mathlib.Core.Path.{refl}
-use Rattle.branch.proofs.Laws.{start-good}
-use Rattle.solver.proofs.Running.{start-numbers, begun-fine, runs}
+use Rattle.branch.proofs.Laws.{start-good, start-numbers}
+use Rattle.solver.proofs.Running.{begun-fine, runs}
 use Rattle.solver.proofs.solve.Statement.{statement}
 use Rattle.solver.proofs.solve.Tie as tie
 use Rattle.solver.proofs.solve.Reads as reads

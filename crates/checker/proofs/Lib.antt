@@ -1,0 +1,5 @@
+pub mod Numbers
+pub mod Turns
+pub mod Testing
+pub mod Agreeing
+pub mod Holding

@@ -1,0 +1,2 @@
+pub mod RaisedWords
+pub mod Layouts

@@ -1,0 +1,100 @@
+// An assignment that was handed in: question 14, and where its parts stand. Nothing is copied.
+use questions::raised;
+use terms::SetVar;
+ghost use mathlib.Core.Path.{_≡_};
+ghost use mathlib.Core.Bool.{false};
+ghost use Prim.Native.Nat.{_+_, _*_, _≤_, _<_};
+ghost use lib.ListN.{length, getD};
+ghost use Rattle.calculus.specs.Reading.{words, ascending};
+ghost use Rattle.questions.specs.Questions.{raisedAt};
+ghost use Rattle.handed.specs.Laid.{Lays, membersAt};
+
+// Whether the bytes are an assignment; and of each set where its members begin, and how many there are.
+pub struct Layout {
+    pub ok: bool,
+    pub starts: [usize; 8],
+    pub counts: [usize; 8],
+}
+
+// Whether two-byte values are strictly ascending.
+fn rising(part: &[u8]) -> bool
+    ensures { λ r. ⌜ r ≡ ascending (words (now (part .entry))) ⌝ }
+{
+    let n = part.len() / 2;
+    let mut least = 0;
+    for i in 0..n {
+        let value = raised(part, 2 * i);
+        if value < least {
+            return false;
+        }
+        least = value + 1;
+    }
+    true
+}
+
+// The bytes are no assignment.
+fn no_layout() -> Layout
+    ensures { λ r. ⌜ r .ok ≡ false ⌝ }
+{
+    Layout {
+        ok: false,
+        starts: [0usize; 8],
+        counts: [0usize; 8],
+    }
+}
+
+// Question 14: a count byte equal to the number of variables, a value each, then of each set a count byte and its members, ascending; and no more.
+pub fn lay_out(assignment: &[u8], variables: u8, sets: u8) -> Layout
+    requires { ⌜ sets ≤ 8 ⌝ }
+    ensures { λ r. ⌜ Lays (now (assignment .entry)) variables sets r ⌝ }
+{
+    if assignment.len() == 0 {
+        return no_layout();
+    }
+    if assignment[0] != variables {
+        return no_layout();
+    }
+    let mut at = 1 + 2 * (variables as usize);
+    if assignment.len() < at {
+        return no_layout();
+    }
+    let mut starts = [0usize; 8];
+    let mut counts = [0usize; 8];
+    let n = sets as usize;
+    for k in 0..n {
+        if assignment.len() <= at {
+            return no_layout();
+        }
+        let count = assignment[at] as usize;
+        let from = at + 1;
+        if assignment.len() - from < 2 * count {
+            return no_layout();
+        }
+        let end = from + 2 * count;
+        if !rising(&assignment[from..end]) {
+            return no_layout();
+        }
+        starts[k] = from;
+        counts[k] = count;
+        at = end;
+    }
+    if at < assignment.len() {
+        return no_layout();
+    }
+    Layout {
+        ok: true,
+        starts: starts,
+        counts: counts,
+    }
+}
+
+// The members of a set: the part of the assignment that has them.
+pub fn members<'a>(assignment: &'a [u8], at: Layout, a: SetVar) -> &'a [u8]
+    requires { ⌜ (a .0 < 8) × (getD (at .starts) (a .0) 0 + 2 * getD (at .counts) (a .0) 0 ≤ length (now assignment)) ⌝ }
+    ensures { λ r. ⌜ now r ≡ membersAt (now (assignment .entry)) at (a .0) ⌝ }
+{
+    let k = a.0 as usize;
+    let from = at.starts[k];
+    let end = from + 2 * at.counts[k];
+    &assignment[from..end]
+}
