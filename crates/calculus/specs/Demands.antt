@@ -1,4 +1,4 @@
--- What the customer holds the two calls to. Every statement is over bytes, budgets and lent buffers, whatever they are.
+-- What the customer holds the two calls to. The statements about calls are over bytes, budgets and lent buffers, whatever they are; the others are about the definitions that these use.
 use mathlib.Core.Path.{_≡_, refl}
 use mathlib.Core.Logic.{_↔_, _⊎_}
 use mathlib.Core.Bool.{Bool, true, false}
@@ -54,7 +54,7 @@ Kept = (bytes : List ℕ) (budget : ℕ) (forms trace : List ℕ) →
     × (length (call bytes budget forms trace .forms) ≡ length forms) × (drop (c * (3 * termCount prob)) (call bytes budget forms trace .forms) ≡ drop (c * (3 * termCount prob)) forms)
     × (length (call bytes budget forms trace .trace) ≡ length trace) × (drop (4 * n) (call bytes budget forms trace .trace) ≡ drop (4 * n) trace))
 
--- And it is bytes.
+-- What is left in both buffers is bytes.
 abbrev pub Bytewise : Type 0
 Bytewise = (bytes : List ℕ) (budget : ℕ) (forms trace : List ℕ) → Bytes forms → Bytes trace → Bytes (call bytes budget forms trace .forms) × Bytes (call bytes budget forms trace .trace)
 

@@ -8,7 +8,7 @@ use lib.Signed.{_≤ℤ_}
 use Rattle.calculus.specs.Terms.{Term, SetVar, termsFrom}
 use Rattle.calculus.specs.Relations.{Relation, equal, union, disjoint, subset, intersection, Negation, denies}
 
--- Kinds 1, 2: member, nonmember; 3, 4: same, different; 5, 7 to 10: relation; 6: negation, with its witness w; 11: exactly; 12: interval. A relation of two sets repeats A for C.
+-- Kinds 1, 2: member, nonmember; 3, 4: same, different; 5, 7 to 10: relation; 6: negation, with its witness w; 11: exactly; 12: interval. A relation of two sets, and a negation of one, repeats A for C.
 pub data Constraint : Type 0 where
   member nonmember : (t : Term) (A : SetVar) → Constraint
   same different : (t u : Term) → Constraint

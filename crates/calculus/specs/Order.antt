@@ -1,4 +1,4 @@
--- Document 01 a second time, as relations and without fuel: what asserting gives, which place is first, how a run goes, and what its paths are.
+-- Document 01 a second time, as relations and without fuel: what asserting gives, which place is first, how a run goes, and what its paths are. A run goes by the first telling's next, recordOf and start: FirstPlace, Records and Reaches (Demands.antt) tie them to this one.
 use mathlib.Core.Path.{_≡_, refl}
 use mathlib.Core.Logic.{_⊎_, _↔_, _≢_}
 use mathlib.Core.Bool.{Bool, true, false}

@@ -53,7 +53,7 @@ valueOf prob number witness t =
 abbrev pub values : Problem → Assignment → (Term → ℤ) → Valuation
 values prob g witness = record { num = valueOf prob (g .number) witness; members = g .members }
 
--- The assignment satisfies the problem (document 01: the setting meets the sheet, is a solution): every constraint's meaning is true of it. No meaning looks at a witness.
+-- The assignment satisfies the problem (document 01: the setting meets the sheet, is a solution): every constraint's meaning is true of it. In a problem that is accepted no meaning looks at a witness.
 abbrev pub Satisfies : Problem → Assignment → Type 0
 Satisfies prob g = Each (Holds (values prob g (λ _. pos 0))) (prob .constraints)
 
@@ -68,7 +68,7 @@ pub record Letters (lo hi : ℕ) (cs : List ℕ) : Type 0 where
   pub rising : (p q : ℕ) → p < q → q < length cs → getD cs p 0 < getD cs q 0
   pub range : (p : ℕ) → p < length cs → (lo ≤ getD cs p 0) × (getD cs p 0 ≤ hi)
 
--- a relation of two sets repeats its first operand
+-- a relation of two sets repeats its first operand, and so does a negation (Refers)
 abbrev pub Repeats : Relation → SetVar → SetVar → Type 0
 Repeats equal A C = C ≡ A
 Repeats union A C = Unit {0}

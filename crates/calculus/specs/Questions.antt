@@ -12,7 +12,7 @@ use Rattle.calculus.specs.Problem.{Rising, Letters, Refers, uses}
 use Rattle.calculus.specs.Encoding.{Bytes, twoBytes, encodeConstraint, Fits16}
 use Rattle.calculus.specs.Reading.{refused, read}
 
--- Each type below says of bytes and a number that this is the number of the first "no"; Next says so of the bytes that follow what is asked about.
+-- The types below that have a number say that it is that of the first "no" of these bytes; Next says so of the bytes that follow what is asked about.
 
 pub data OfLength (Next : List ℕ → ℕ → Type 0) : List ℕ → ℕ → Type 0 where
   -- Is the problem at most 4,096 bytes? 1
@@ -106,7 +106,7 @@ module _ (cs : List ℤ) (ns ss : List ℕ) where
   abbrev N : ℕ
   N = length cs + length ns
 
-  -- constraints of which questions 7 to 9 are answered "yes"
+  -- constraints of which questions 2 and 7 to 9 are answered "yes"
   abbrev Good : List Constraint → Type 0
   Good ls = Each (Refers cs N (length ss)) ls
 

@@ -17,7 +17,8 @@ use Rattle.problem.proofs.Access.{opened}
 use Rattle.output.specs.declared.Counts.{Counts}
 use Rattle.output.specs.State.{State, state, stopNumber, left}
 use Rattle.solver.specs.Outcomes.{Runs}
-use Rattle.capi.specs.Contract.{endOf, RunContract}
+use Rattle.capi.specs.Contract.{RunContract}
+use Rattle.capi.specs.Ended.{endOf}
 use Rattle.capi.proofs.Contracted.{contract}
 
 -- the table of a refused problem has the question's number

@@ -19,7 +19,7 @@ use Rattle.calculus.proofs.Models.{models, verdicts}
 use Rattle.calculus.proofs.NoChoice.{one-way}
 use Rattle.calculus.proofs.WorkOrder.{run-goes}
 use Rattle.calculus.proofs.ReadValid.{read-valid}
-use Rattle.capi.specs.Contract.{verdictIn, stepsIn, formsIn, listedIn, progressIn, RunContract}
+use Rattle.capi.specs.Contract.{verdictIn, numberIn, stepsIn, formsIn, listedIn, progressIn, Ran, RunContract}
 
 -- every verdict has its own number, and none is that of a refusal
 own-number : (v w : Verdict) → verdictNumber v ≡ verdictNumber w → v ≡ w
@@ -54,8 +54,8 @@ module _ (bytes : List ℕ) (budget : ℕ) (forms trace : List ℕ) where
   word = answerWord answer
 
   -- what the word says of a refusal, and of any other answer
-  refused-word : (n : ℕ) → answer ≡ refusal n → (verdictIn word ≡ 0) × (formsIn word ≡ 0)
-  refused-word n e = let u = answers bytes .0 budget forms trace .0 n e in (u .verdict-is, u .forms-are)
+  refused-word : (n : ℕ) → answer ≡ refusal n → (verdictIn word ≡ 0) × (formsIn word ≡ 0) × (numberIn word ≡ n) × (stepsIn word ≡ 0)
+  refused-word n e = let u = answers bytes .0 budget forms trace .0 n e in (u .verdict-is, u .forms-are, u .number-is, u .steps-are)
 
   ended-word : (v : Verdict) (n c : ℕ) → answer ≡ ended v n c → (verdictIn word ≡ verdictNumber v) × (stepsIn word ≡ n) × (formsIn word ≡ c)
   ended-word v n c e = let u = answers bytes .0 budget forms trace .1 v n c e in (u .verdict-is, u .steps-are, u .forms-are)
@@ -76,14 +76,31 @@ module _ (bytes : List ℕ) (budget : ℕ) (forms trace : List ℕ) where
           let y : _≡_ {A = ℕ} 0 1 = cc in
           absurd (omega arith)
 
+  -- the question that refuses a call
+  refused-by : (n : ℕ) → answer ≡ refusal n → asked bytes budget (length trace) ≡ refused n
+  refused-by n e = go (asked bytes budget (length trace)) refl
+    where
+      go : (m : Parsed Problem) → asked bytes budget (length trace) ≡ m → asked bytes budget (length trace) ≡ refused n
+      go (parsed prob) q =
+          let k = kept bytes budget forms trace .1 prob q in
+          let x : refusal n ≡ ended (k .0) (k .1) (k .2) = sym e ∙ k .3 in
+          let y : _≡_ {A = ℕ} 0 1 = cc in
+          absurd (omega arith)
+      go (refused m) q =
+          let x : refusal m ≡ refusal n = ap (λ o. o .answer) (sym (kept bytes budget forms trace .0 m q)) ∙ e in
+          let y : m ≡ n = cc in
+          q ∙ ap refused y
+
   pub contract : RunContract bytes budget forms trace word (call bytes budget forms trace .forms) (call bytes budget forms trace .trace)
   contract = record {
     determined = (refl, refl, refl);
+    refusals = λ n. ((λ q. refusal-at n q answer refl), refused-so n);
+    untouched = λ q. untouched-at q answer refl;
     models = λ prob r. models-at prob r answer refl;
     no-false-alarm = λ q. false-at q answer refl;
-    same-solutions = λ q prob r g. same-at q prob r g answer refl;
-    short-paths = short;
+    same-solutions = λ q. same-at q answer refl;
     order-of-work = λ q. order-at q answer refl;
+    short-paths = short;
   }
     where
       Modelled : Problem → Type 0
@@ -104,23 +121,35 @@ module _ (bytes : List ℕ) (budget : ℕ) (forms trace : List ℕ) where
       which v (inl q) = inl (own-number v FORMS q)
       which v (inr q) = inr (own-number v FALSE q)
 
-      same-at : (verdictIn word ≡ 1) ⊎ (verdictIn word ≡ 2) → (prob : Problem) → read bytes ≡ parsed prob → (g : Assignment) → (a : Answer) → answer ≡ a
-          → Satisfies prob g ↔ Some (SatisfiesForm prob g) (listedIn prob word (call bytes budget forms trace .forms))
-      same-at (inl q) prob r g (refusal n) e = absurd (omega (arith, q, refused-word n e .0))
-      same-at (inr q) prob r g (refusal n) e = absurd (omega (arith, q, refused-word n e .0))
-      same-at (inl q) prob r g (ended v n c) e = rw (ended-word v n c e .2) (same-solutions bytes budget forms trace prob r v n c e (which v (inl (sym (ended-word v n c e .0) ∙ q))) g)
-      same-at (inr q) prob r g (ended v n c) e = rw (ended-word v n c e .2) (same-solutions bytes budget forms trace prob r v n c e (which v (inr (sym (ended-word v n c e .0) ∙ q))) g)
+      refusal-at : (n : ℕ) → (verdictIn word ≡ 0) × (numberIn word ≡ n) → (a : Answer) → answer ≡ a → asked bytes budget (length trace) ≡ refused n
+      refusal-at n q (refusal m) e = refused-by m e ∙ ap refused (sym (refused-word m e .2) ∙ q .1)
+      refusal-at n q (ended v m c) e = absurd (some-number v (sym (ended-word v m c e .0) ∙ q .0))
 
-      short : (prob : Problem) → read bytes ≡ parsed prob → (v : Verdict) (e : Progress) (ps : List ℕ) → Works prob budget (length forms) ((0, start (termCount prob)) ∷ []) unbegun v e ps → Each (λ d. d ≤ termCount prob * suc (setCount prob)) ps
-      short prob r v e ps w =
-          let g = run-goes prob (read-valid bytes prob r) budget (length forms) in
-          let x = one-way prob budget (length forms) ((0, start (termCount prob)) ∷ []) unbegun _ v _ e (g .0) ps (g .1) w in
-          subst (Each (λ d. d ≤ termCount prob * suc (setCount prob))) (x .2) (g .2)
+      refused-so : (n : ℕ) → asked bytes budget (length trace) ≡ refused n → (verdictIn word ≡ 0) × (numberIn word ≡ n)
+      refused-so n q = let w = refused-word n (ap (λ o. o .answer) (kept bytes budget forms trace .0 n q)) in (w .0, w .2)
 
-      order-at : ¬ (verdictIn word ≡ 0) → (a : Answer) → answer ≡ a → (prob : Problem) × (read bytes ≡ parsed prob) × (v : Verdict) × (verdictIn word ≡ verdictNumber v) × (ps : List ℕ)
-          × Works prob budget (length forms) ((0, start (termCount prob)) ∷ []) unbegun v (progressIn prob word (call bytes budget forms trace .forms) (call bytes budget forms trace .trace)) ps
-          × ((w : Verdict) (e : Progress) (qs : List ℕ) → Works prob budget (length forms) ((0, start (termCount prob)) ∷ []) unbegun w e qs
-          → (w ≡ v) × (e ≡ progressIn prob word (call bytes budget forms trace .forms) (call bytes budget forms trace .trace)) × (qs ≡ ps))
+      untouched-at : verdictIn word ≡ 0 → (a : Answer) → answer ≡ a → (stepsIn word ≡ 0) × (formsIn word ≡ 0) × (call bytes budget forms trace .forms ≡ forms) × (call bytes budget forms trace .trace ≡ trace)
+      untouched-at q (refusal n) e = let w = refused-word n e in let k = kept bytes budget forms trace .0 n (refused-by n e) in (w .3, w .1, ap (λ o. o .forms) k, ap (λ o. o .trace) k)
+      untouched-at q (ended v n c) e = absurd (some-number v (sym (ended-word v n c e .0) ∙ q))
+
+      Shared : Type 0
+      Shared = (prob : Problem) × (read bytes ≡ parsed prob) × ((g : Assignment) → Satisfies prob g ↔ Some (SatisfiesForm prob g) (listedIn prob word (call bytes budget forms trace .forms)))
+
+      shared : (v : Verdict) (n c : ℕ) → answer ≡ ended v n c → (v ≡ FORMS) ⊎ (v ≡ FALSE) → Shared
+      shared v n c e q = let a = accepted v n c e in (a .prob, a .reads, λ g. rw (ended-word v n c e .2) (same-solutions bytes budget forms trace (a .prob) (a .reads) v n c e q g))
+
+      same-at : (verdictIn word ≡ 1) ⊎ (verdictIn word ≡ 2) → (a : Answer) → answer ≡ a → Shared
+      same-at (inl q) (refusal n) e = absurd (omega (arith, q, refused-word n e .0))
+      same-at (inr q) (refusal n) e = absurd (omega (arith, q, refused-word n e .0))
+      same-at (inl q) (ended v n c) e = shared v n c e (which v (inl (sym (ended-word v n c e .0) ∙ q)))
+      same-at (inr q) (ended v n c) e = shared v n c e (which v (inr (sym (ended-word v n c e .0) ∙ q)))
+
+      short : (r : Ran bytes budget forms word (call bytes budget forms trace .forms) (call bytes budget forms trace .trace)) → Each (λ d. d ≤ termCount (r .prob) * suc (setCount (r .prob))) (r .paths)
+      short r =
+          let g = run-goes (r .prob) (read-valid bytes (r .prob) (r .reads)) budget (length forms) in
+          subst (Each (λ d. d ≤ termCount (r .prob) * suc (setCount (r .prob)))) (r .only _ _ (g .0) (g .1) .2) (g .2)
+
+      order-at : ¬ (verdictIn word ≡ 0) → (a : Answer) → answer ≡ a → Ran bytes budget forms word (call bytes budget forms trace .forms) (call bytes budget forms trace .trace)
       order-at q (refusal n) e = absurd (q (refused-word n e .0))
       order-at q (ended v n c) e =
           let a = accepted v n c e in
@@ -131,4 +160,12 @@ module _ (bytes : List ℕ) (budget : ℕ) (forms trace : List ℕ) where
           rw (d .1, d .2, f .4, f .5) refl in
           let w : Works prob budget (length forms) ((0, start (termCount prob)) ∷ []) unbegun v (progressIn prob word (call bytes budget forms trace .forms) (call bytes budget forms trace .trace)) (f .2) =
           subst (λ (x : Progress). Works prob budget (length forms) ((0, start (termCount prob)) ∷ []) unbegun v x (f .2)) p (f .3) in
-          (prob, a .reads, v, d .0, f .2, w, λ u x qs y. one-way prob budget (length forms) ((0, start (termCount prob)) ∷ []) unbegun u v x _ qs (f .2) y w)
+          record {
+            prob = prob;
+            reads = a .reads;
+            verdict = v;
+            verdict-is = d .0;
+            paths = f .2;
+            works = w;
+            only = λ u x qs y. one-way prob budget (length forms) ((0, start (termCount prob)) ∷ []) unbegun u v x _ qs (f .2) y w;
+          }

@@ -1,29 +1,30 @@
 -- The contracts of the two calls, over their bytes, their answer word, and the buffers as they leave them.
 use mathlib.Core.Path.{_≡_}
 use mathlib.Core.Logic.{_↔_, _⊎_}
-use mathlib.Core.Bool.{cond}
 use mathlib.Core.List.{List, [], _∷_}
-use Prim.Native.Nat.{ℕ, suc, _+_, _*_, _/_, _%_, _≤_, _<_}
+use Prim.Native.Nat.{ℕ, suc, _*_, _/_, _%_, _≤_, _<_}
 use lib.ListN.{length, getD, take}
 use lib.IntN.{pos}
-use lib.Dec.{eqb}
 use Rattle.calculus.specs.Lists.{Each, Some}
 use Rattle.calculus.specs.Terms.{term, setVar}
 use Rattle.calculus.specs.Meaning.{member, Holds}
 use Rattle.calculus.specs.Branch.{start}
 use Rattle.calculus.specs.Problem.{Problem, termCount, setCount, Assignment, values, Satisfies}
-use Rattle.calculus.specs.Reading.{parsed, read}
+use Rattle.calculus.specs.Reading.{parsed, refused, read}
 use Rattle.calculus.specs.Forms.{listedForms, Agrees, SatisfiesForm, modelNumber, model}
-use Rattle.calculus.specs.Run.{End, DONE, SPENT, NOROOM}
 use Rattle.calculus.specs.Encoding.{Handed}
 use Rattle.calculus.specs.Check.{readAssignment, assignmentOf}
-use Rattle.calculus.specs.Calls.{Verdict, call, answerWord, verdictNumber, Checked, check, checkWord, checkedNumber}
+use Rattle.calculus.specs.Calls.{Verdict, asked, call, answerWord, verdictNumber, Checked, check, checkWord, checkedNumber}
 use Rattle.calculus.specs.Order.{Progress, unbegun, Works}
 use Rattle.calculus.specs.Demands.{Shape, Valued}
 
--- the parts of an answer word (Calls.antt has its layout): 0 REFUSED, 1 FORMS, 2 FALSE, 3 SPENT, 4 NO ROOM
+-- The parts of an answer word (Calls.antt has its layout). The verdict: 0 REFUSED, 1 FORMS, 2 FALSE, 3 SPENT, 4 NO ROOM, 5 HOLDS, 6 FAILS
 abbrev pub verdictIn : ℕ → ℕ
 verdictIn word = word % 256
+
+-- the refusal number, or the number of the constraint that fails
+abbrev pub numberIn : ℕ → ℕ
+numberIn word = word / 256 % 256
 
 abbrev pub stepsIn : ℕ → ℕ
 stepsIn word = word / 65536 % 65536
@@ -39,45 +40,57 @@ listedIn prob word forms = listedForms (3 * termCount prob) (formsIn word) forms
 abbrev pub progressIn : Problem → ℕ → List ℕ → List ℕ → Progress
 progressIn prob word forms trace = record { steps = stepsIn word; forms = formsIn word; records = take (formsIn word * (3 * termCount prob)) forms; trace = take (4 * stepsIn word) trace }
 
--- the end that the code's stop number says
-abbrev pub endOf : ℕ → End
-endOf stop = cond (eqb stop 0) DONE (cond (eqb stop 1) SPENT NOROOM)
+-- ---- the run: forms and trace are the lent buffers as they were, forms′ and trace′ as the call leaves them
 
--- forms and trace are the lent buffers as they were, forms′ and trace′ as the call leaves them
+-- What the call has done is a run in document 01's order of work (Order.antt; FirstPlace, Asserts, Records and ClassesOnce of Demands.antt say what its steps and records are), and there is no other.
+pub record Ran (bytes : List ℕ) (budget : ℕ) (forms : List ℕ) (word : ℕ) (forms′ trace′ : List ℕ) : Type 0 where
+  pub prob : Problem
+  pub reads : read bytes ≡ parsed prob
+  pub verdict : Verdict
+  pub verdict-is : verdictIn word ≡ verdictNumber verdict
+  -- the lengths of its paths, to each form, closed branch and stop
+  pub paths : List ℕ
+  pub works : Works prob budget (length forms) ((0, start (termCount prob)) ∷ []) unbegun verdict (progressIn prob word forms′ trace′) paths
+  pub only : (v : Verdict) (e : Progress) (ps : List ℕ) → Works prob budget (length forms) ((0, start (termCount prob)) ∷ []) unbegun v e ps → (v ≡ verdict) × (e ≡ progressIn prob word forms′ trace′) × (ps ≡ paths)
+
 pub record RunContract (bytes : List ℕ) (budget : ℕ) (forms trace : List ℕ) (word : ℕ) (forms′ trace′ : List ℕ) : Type 0 where
   -- The word and both buffers, every byte, are the definition's: a refusal leaves both untouched, and later bytes stay as they were.
   pub determined : (word ≡ answerWord (call bytes budget forms trace .answer)) × (forms′ ≡ call bytes budget forms trace .forms) × (trace′ ≡ call bytes budget forms trace .trace)
-  -- The model of every listed record satisfies every constraint and the record.
+  -- It is refused with number n exactly where question n is the first that is answered "no".
+  pub refusals : (n : ℕ) → ((verdictIn word ≡ 0) × (numberIn word ≡ n)) ↔ (asked bytes budget (length trace) ≡ refused n)
+  -- A refusal counts nothing and writes nothing.
+  pub untouched : verdictIn word ≡ 0 → (stepsIn word ≡ 0) × (formsIn word ≡ 0) × (forms′ ≡ forms) × (trace′ ≡ trace)
+  -- The model of every listed record satisfies every constraint and the record; Shape and Valued say what the record and its model look like.
   pub models : (prob : Problem) → read bytes ≡ parsed prob
       → Each (λ r. Satisfies prob (model prob r) × Agrees (termCount prob) (values prob (model prob r) (modelNumber prob r)) r × Shape prob r × Valued prob r) (listedIn prob word forms′)
   -- FALSE is said only of a problem that no assignment satisfies.
   pub no-false-alarm : verdictIn word ≡ verdictNumber Verdict.FALSE → (prob : Problem) × (read bytes ≡ parsed prob) × ((g : Assignment) → ¬ Satisfies prob g)
   -- After FORMS and FALSE the problem, as read from its bytes, and the listed records share exactly the same solutions.
-  pub same-solutions : (verdictIn word ≡ verdictNumber Verdict.FORMS) ⊎ (verdictIn word ≡ verdictNumber Verdict.FALSE) → (prob : Problem) → read bytes ≡ parsed prob
-      → (g : Assignment) → Satisfies prob g ↔ Some (SatisfiesForm prob g) (listedIn prob word forms′)
-  -- No path of the call, to a form, a closed branch or the branch where it stopped, is longer than terms × (sets + 1).
-  pub short-paths : (prob : Problem) → read bytes ≡ parsed prob → (v : Verdict) (e : Progress) (ps : List ℕ)
-      → Works prob budget (length forms) ((0, start (termCount prob)) ∷ []) unbegun v e ps → Each (λ d. d ≤ termCount prob * suc (setCount prob)) ps
+  pub same-solutions : (verdictIn word ≡ verdictNumber Verdict.FORMS) ⊎ (verdictIn word ≡ verdictNumber Verdict.FALSE)
+      → (prob : Problem) × (read bytes ≡ parsed prob) × ((g : Assignment) → Satisfies prob g ↔ Some (SatisfiesForm prob g) (listedIn prob word forms′))
   -- Unless it is refused, the verdict, counts, records and trace are those of document 01's order of work, which leaves no choice.
-  pub order-of-work : ¬ (verdictIn word ≡ 0) → (prob : Problem) × (read bytes ≡ parsed prob) × (v : Verdict) × (verdictIn word ≡ verdictNumber v) × (ps : List ℕ)
-      × Works prob budget (length forms) ((0, start (termCount prob)) ∷ []) unbegun v (progressIn prob word forms′ trace′) ps
-      × ((w : Verdict) (e : Progress) (qs : List ℕ) → Works prob budget (length forms) ((0, start (termCount prob)) ∷ []) unbegun w e qs → (w ≡ v) × (e ≡ progressIn prob word forms′ trace′) × (qs ≡ ps))
+  pub order-of-work : ¬ (verdictIn word ≡ 0) → Ran bytes budget forms word forms′ trace′
+  -- No path of the call, to a form, a closed branch or the branch where it stopped, is longer than terms × (sets + 1).
+  pub short-paths : (r : Ran bytes budget forms word forms′ trace′) → Each (λ d. d ≤ termCount (r .prob) * suc (setCount (r .prob))) (r .paths)
 
 -- ---- the assignment check
-
--- the refusal number, or the number of the constraint that fails
-abbrev pub numberIn : ℕ → ℕ
-numberIn word = word / 256 % 256
 
 -- constraint i is true of what was handed in
 abbrev pub TrueAt : Problem → Handed → ℕ → Type 0
 TrueAt prob g i = Holds (values prob (assignmentOf g) (λ _. pos 0)) (getD (prob .constraints) i (member (term 0) (setVar 0)))
 
+-- what was handed in is an assignment g of the problem prob
+pub record Given (bytes assignment : List ℕ) (prob : Problem) (g : Handed) : Type 0 where
+  pub reads : read bytes ≡ parsed prob
+  pub hands : readAssignment prob assignment ≡ parsed g
+
 pub record CheckContract (bytes assignment : List ℕ) (word : ℕ) : Type 0 where
   -- The word is the definition's.
   pub determined : word ≡ checkWord (check bytes assignment)
-  -- HOLDS is said exactly where the bytes are a problem, the assignment is one for it, and it satisfies the problem.
-  pub holds : (verdictIn word ≡ checkedNumber Checked.HOLDS) ↔ ((prob : Problem) × (g : Handed) × (read bytes ≡ parsed prob) × (readAssignment prob assignment ≡ parsed g) × Satisfies prob (assignmentOf g))
-  -- FAILS names a constraint that is false of the assignment, and all lower ones are true of it.
-  pub fails : verdictIn word ≡ checkedNumber (Checked.FAILS 0) → (prob : Problem) × (g : Handed) × (read bytes ≡ parsed prob) × (readAssignment prob assignment ≡ parsed g)
-      × (numberIn word < length (prob .constraints)) × ¬ TrueAt prob g (numberIn word) × ((j : ℕ) → j < numberIn word → TrueAt prob g j)
+  -- It is refused with the number of the problem's first question that is answered "no", or with 14 if the assignment is none for the problem.
+  pub refusals : verdictIn word ≡ 0 → (read bytes ≡ refused (numberIn word)) ⊎ ((prob : Problem) × (read bytes ≡ parsed prob) × (readAssignment prob assignment ≡ refused (numberIn word)) × (numberIn word ≡ 14))
+  -- HOLDS is said exactly where the assignment satisfies the problem.
+  pub holds : (verdictIn word ≡ checkedNumber Checked.HOLDS) ↔ ((prob : Problem) × (g : Handed) × Given bytes assignment prob g × Satisfies prob (assignmentOf g))
+  -- FAILS names constraint i (its number is in the word; the verdict is the same for every i) exactly where that is false of the assignment and all lower ones are true of it.
+  pub fails : (i : ℕ) → ((verdictIn word ≡ checkedNumber (Checked.FAILS i)) × (numberIn word ≡ i))
+      ↔ ((prob : Problem) × (g : Handed) × Given bytes assignment prob g × (i < length (prob .constraints)) × ¬ TrueAt prob g i × ((j : ℕ) → j < i → TrueAt prob g j))

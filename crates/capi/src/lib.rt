@@ -7,7 +7,8 @@ use solver::solve;
 ghost use mathlib.Core.Path.{_≡_};
 ghost use Prim.Native.Nat.{_≤_};
 ghost use Rattle.calculus.specs.Calls.{refusal, ended, verdictOf, answerWord};
-ghost use Rattle.capi.specs.Contract.{endOf, RunContract, CheckContract};
+ghost use Rattle.capi.specs.Contract.{RunContract, CheckContract};
+ghost use Rattle.capi.specs.Ended.{endOf};
 
 // The word of a refusal.
 fn declined(n: u8) -> u64
@@ -16,7 +17,7 @@ fn declined(n: u8) -> u64
     256 * (n as u64)
 }
 
-// The word of a run that ended.
+// The word of a run that ended. A run takes at most 10,000 steps and lists at most 650,001 forms.
 fn ended(c: Counts) -> u64
     requires { ⌜ (c .steps ≤ 10000) × (c .forms ≤ 650001) ⌝ }
     ensures { λ r. ⌜ r ≡ answerWord (ended (verdictOf (endOf (c .stop)) (c .forms)) (c .steps) (c .forms)) ⌝ }
