@@ -4,13 +4,20 @@
 pub mod check;
 pub mod ffi;
 pub mod generate;
+pub mod listing;
+pub mod papers;
 pub mod sheet;
 pub mod solver;
+pub mod text;
 
 #[cfg(test)]
 mod cases;
 #[cfg(test)]
 mod meaning;
+#[cfg(test)]
+mod models;
+#[cfg(test)]
+mod papers_check;
 
 /// The answer word: bits 0-7 verdict, 8-15 refusal number or failing line,
 /// 16-31 steps, 32-63 forms.

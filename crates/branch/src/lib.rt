@@ -7,7 +7,7 @@ ghost use Prim.Native.Nat.{_*_, _-_, _≤_, _<_};
 ghost use lib.ListN.{length, replicate};
 ghost use Rattle.calculus.specs.Lists.{bit};
 ghost use Rattle.calculus.specs.Terms.{term, setVar, termsFrom};
-ghost use Rattle.calculus.specs.Branch.{start, rootAt, In, Out, Same, known, conflictIf, mergeRoots, assert};
+ghost use Rattle.calculus.specs.Branch.{start, rootAt, In, Out, Same, conflictIf, mergeRoots, assert};
 ghost use Rattle.calculus.specs.Forms.{recordOf};
 ghost use Rattle.calculus.specs.Invariants.{Falls};
 ghost use Rattle.branch.specs.Held.{held, rootOf, answer, Good};
@@ -38,7 +38,7 @@ pub fn root_at(parents: &[u8], t: usize) -> usize
 }
 
 // Set number k is in the mask.
-fn has(mask: u8, k: u8) -> bool
+pub fn has(mask: u8, k: u8) -> bool
     requires { ⌜ k < 8 ⌝ }
     ensures { λ r. ⌜ r ≡ bit mask k ⌝ }
 {
@@ -87,38 +87,6 @@ impl Branch {
         let i = t.0 as usize;
         let h = root_at(&parents, i) as u8;
         Term(h)
-    }
-
-    // t is known to be in a.
-    pub fn is_in(self, t: Term, a: SetVar) -> bool
-        requires { ⌜ (t .0 < 64) × (a .0 < 8) × Falls (self .parents) ⌝ }
-        ensures { λ r. ⌜ r ≡ known (held self) (In (term (t .0)) (setVar (a .0))) ⌝ }
-    {
-        let h = self.root(t);
-        let i = h.0 as usize;
-        let insides = self.insides;
-        has(insides[i], a.0)
-    }
-
-    // t is known to be out of a.
-    pub fn is_out(self, t: Term, a: SetVar) -> bool
-        requires { ⌜ (t .0 < 64) × (a .0 < 8) × Falls (self .parents) ⌝ }
-        ensures { λ r. ⌜ r ≡ known (held self) (Out (term (t .0)) (setVar (a .0))) ⌝ }
-    {
-        let h = self.root(t);
-        let i = h.0 as usize;
-        let outsides = self.outsides;
-        has(outsides[i], a.0)
-    }
-
-    // t and u are known to be one class.
-    pub fn is_same(self, t: Term, u: Term) -> bool
-        requires { ⌜ (t .0 < 64) × (u .0 < 64) × Falls (self .parents) ⌝ }
-        ensures { λ r. ⌜ r ≡ known (held self) (Same (term (t .0)) (term (u .0))) ⌝ }
-    {
-        let h = self.root(t);
-        let k = self.root(u);
-        h.0 == k.0
     }
 
     // Asserts that t is in a.

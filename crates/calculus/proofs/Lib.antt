@@ -52,7 +52,6 @@ pub mod Sizes
 pub mod StepBounds
 pub mod ByteLaws
 pub mod AnswerLaws
-pub mod Examples
 pub mod Enumerating
 pub mod RulePlaces
 pub mod FirstPlace

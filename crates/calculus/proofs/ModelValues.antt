@@ -20,7 +20,7 @@ use Rattle.calculus.specs.Demands.{Shape, Valued}
 use Rattle.calculus.proofs.Bools.{and-l, and-r, and-i, clash, first-none, first-some}
 use Rattle.calculus.proofs.Sequences.{terms-each, terms-at, keep-each, keep-at, from-image, image-of}
 
-any-default : (l : List ℕ) (i d e : ℕ) → i < length l → getD l i d ≡ getD l i e
+pub any-default : (l : List ℕ) (i d e : ℕ) → i < length l → getD l i d ≡ getD l i e
 any-default [] i d e q = absurd (omega arith)
 any-default (x ∷ xs) zero d e q = refl
 any-default (x ∷ xs) (suc i) d e q = any-default xs i d e (le-of-suc-le-suc q)

@@ -35,10 +35,10 @@ use Rattle.calculus.proofs.Checking.{checks}
 -- ---- a value for each number: how many, and the one at a place
 
 module _ {X : Type 0} (f : ℕ → X) where
-  long : (n : ℕ) → length (map f (upFrom 0 n)) ≡ n
+  pub long : (n : ℕ) → length (map f (upFrom 0 n)) ≡ n
   long n = length-map (upFrom 0 n) f ∙ up-length 0 n
 
-  at : (s n i j : ℕ) (d : X) → i < n → j ≡ s + i → getD (map f (upFrom s n)) i d ≡ f j
+  pub at : (s n i j : ℕ) (d : X) → i < n → j ≡ s + i → getD (map f (upFrom s n)) i d ≡ f j
   at s zero i j d l e = absurd (omega arith)
   at s (suc n) zero j d l e = ap f (omega arith)
   at s (suc n) (suc i) j d l e = at (suc s) n i j d (omega arith) (omega arith)

@@ -40,7 +40,7 @@ own-number NOROOM FALSE e = absurd (omega (arith, e))
 own-number NOROOM SPENT e = absurd (omega (arith, e))
 own-number NOROOM NOROOM e = refl
 
-some-number : (v : Verdict) → ¬ (verdictNumber v ≡ 0)
+pub some-number : (v : Verdict) → ¬ (verdictNumber v ≡ 0)
 some-number FORMS e = absurd (omega (arith, e))
 some-number FALSE e = absurd (omega (arith, e))
 some-number SPENT e = absurd (omega (arith, e))
@@ -66,7 +66,7 @@ module _ (bytes : List ℕ) (budget : ℕ) (forms trace : List ℕ) where
     pub asks : asked bytes budget (length trace) ≡ parsed prob
     pub reads : read bytes ≡ parsed prob
 
-  accepted : (v : Verdict) (n c : ℕ) → answer ≡ ended v n c → Accepted v n c
+  pub accepted : (v : Verdict) (n c : ℕ) → answer ≡ ended v n c → Accepted v n c
   accepted v n c e = go (asked bytes budget (length trace)) refl
     where
       go : (m : Parsed Problem) → asked bytes budget (length trace) ≡ m → Accepted v n c

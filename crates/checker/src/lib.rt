@@ -21,7 +21,7 @@ ghost use Rattle.constraints.specs.Decoded.{relationOf};
 ghost use Rattle.checker.specs.Tested.{bytesAt, relatedAt, numberOf, seen, Readable, entriesIn, Fitting, failing};
 
 // Two bytes, low first.
-fn word(part: &[u8], at: usize) -> u16
+pub fn word(part: &[u8], at: usize) -> u16
     requires { ⌜ at + 1 < length (now part) ⌝ }
     ensures { λ r. ⌜ (r ≡ bytesAt (now (part .entry)) at) × (r < 65536) ⌝ }
 {

@@ -17,7 +17,7 @@ pub struct Counts {
 }
 
 // Writes bytes at a place of a buffer.
-fn put(bytes: &[u8], buffer: &mut [u8], at: usize)
+pub fn put(bytes: &[u8], buffer: &mut [u8], at: usize)
     requires { ⌜ at + length (now bytes) ≤ length (now buffer) ⌝ }
     ensures { λ _. ⌜ now (buffer .exit) ≡ putAt (now (buffer .entry)) at (now (bytes .entry)) ⌝ }
 {

@@ -1,11 +1,11 @@
 -- The laws of what is read through the table of an accepted problem. Assumes nothing.
 use mathlib.Core.Path.{_≡_, refl, sym, ap, ap₂, _∙_, subst}
-use mathlib.Core.List.{List, [], _∷_, _++_, map, map-map, append-nil, append-assoc}
+use mathlib.Core.List.{List, [], _∷_, _++_, map, append-nil, append-assoc}
 use Prim.Native.Nat.{ℕ, zero, suc, _+_, _*_, _-_, _<_, _≤_}
 use native.Mathlib.Omega.{arith}
 use native.Mathlib.Decide.{decLt}
 use native.Mathlib.Nat.{le-of-suc-le-suc}
-use lib.ListN.{length, getD, take, drop, replicate, length-append, length-drop, length-map, getD-replicate, List·getD-append, List·getD-map, List·getD-eq-default}
+use lib.ListN.{length, getD, take, drop, replicate, length-append, length-drop, length-map, getD-replicate, List·getD-append, List·getD-eq-default}
 use lib.Seq.{drop-at, take-at, drop-drop, drop-append-seam, getD-drop, getD-append-add}
 use lib.IntN.{ℤ, pos}
 use Rattle.calculus.specs.Lists.{gather}
@@ -23,7 +23,7 @@ use Rattle.calculus.proofs.Refuses.{refuses}
 use Rattle.problem.specs.declared.Table.{Table}
 use Rattle.questions.specs.Questions.{constantsOf, constantAt}
 use Rattle.problem.specs.Sections.{startsFrom, witnessesFrom, filled}
-use Rattle.problem.specs.Table.{headerLength, problemTable, tableIs, tableOf, Opened, valuesOf, constantOf, constraintsOf, noConstraint, constraintOf, kindOf, Operand, ofTerm, ofSet, ofCount, operands, operandOf, TermAt, SetAt, listed, witnessesOf, witnessOf}
+use Rattle.problem.specs.Table.{headerLength, problemTable, tableIs, tableOf, Opened, valuesOf, constantOf, constraintsOf, noConstraint, constraintOf, kindOf, listed, witnessesOf, witnessOf}
 use Rattle.questions.proofs.Constants.{constant-at}
 use Rattle.problem.proofs.ConstraintSteps.{starts-length}
 
@@ -102,24 +102,19 @@ pub record Placed (bs : List ℕ) (tab : Table) (i : ℕ) : Type 0 where
 
 -- ---- a constraint's bytes: its kind, and then its operands
 
-abbrev byteOf : Operand → ℕ
-byteOf (ofTerm t) = t .index
-byteOf (ofSet A) = A .index
-byteOf (ofCount n) = n
-
-encoding : (l : Constraint) → encodeConstraint l ≡ kindOf l ∷ map byteOf (operands l)
-encoding (member t A) = refl
-encoding (nonmember t A) = refl
-encoding (same t u) = refl
-encoding (different t u) = refl
-encoding (relation equal A B C) = refl
-encoding (relation union A B C) = refl
-encoding (relation disjoint A B C) = refl
-encoding (relation subset A B C) = refl
-encoding (relation intersection A B C) = refl
-encoding (negation unequal A B C w) = refl
-encoding (exactly A es) = ap (λ (v : List ℕ). 11 ∷ A .index ∷ length es ∷ v) (sym (map-map byteOf ofTerm es))
-encoding (interval A i j) = refl
+kind-first : (l : Constraint) → (more : List ℕ) × (encodeConstraint l ≡ kindOf l ∷ more)
+kind-first (member t A) = (_, refl)
+kind-first (nonmember t A) = (_, refl)
+kind-first (same t u) = (_, refl)
+kind-first (different t u) = (_, refl)
+kind-first (relation equal A B C) = (_, refl)
+kind-first (relation union A B C) = (_, refl)
+kind-first (relation disjoint A B C) = (_, refl)
+kind-first (relation subset A B C) = (_, refl)
+kind-first (relation intersection A B C) = (_, refl)
+kind-first (negation unequal A B C w) = (_, refl)
+kind-first (exactly A es) = (_, refl)
+kind-first (interval A i j) = (_, refl)
 
 pub placed : (bs : List ℕ) (tab : Table) (i : ℕ) → Opened bs tab → i < tab .constraints → Placed bs tab i
 unfolding problemTable constraintOf constraintsOf
@@ -137,7 +132,8 @@ placed bs tab i o l =
     let h : drop (getD (tab .offsets) i 0) bs ≡ encodeConstraint (constraintOf bs i) ++ more =
     ap (λ (x : ℕ). drop x bs) a ∙ stands-at bs (prob .constraints) (headerLength prob) i (header-ends prob bs (read-first bs prob (q .1))) li ∙ ap (λ (x : Constraint). encodeConstraint x ++ more) (sym c) in
     let d : length bs - getD (tab .offsets) i 0 ≡ length (encodeConstraint (constraintOf bs i)) + length more = sym (length-drop (getD (tab .offsets) i 0) bs) ∙ ap length h ∙ length-append (encodeConstraint (constraintOf bs i)) more in
-    let p : length (encodeConstraint (constraintOf bs i)) ≡ suc (length (map byteOf (operands (constraintOf bs i)))) = ap length (encoding (constraintOf bs i)) in
+    let f = kind-first (constraintOf bs i) in
+    let p : length (encodeConstraint (constraintOf bs i)) ≡ suc (length (f .0)) = ap length (f .1) in
     record { small = omega (arith, v .few-constraints); short = q .0; low = omega arith; rest = more; here = h }
 
 -- ---- what is read
@@ -157,33 +153,8 @@ module _ (bs : List ℕ) (tab : Table) (i : ℕ) (h : Placed bs tab i) where
   pub kind-read : getD bs at 0 ≡ kindOf this
   kind-read =
       let z : at + 0 ≡ at = omega arith in
-      let l : length (encodeConstraint this) ≡ suc (length (map byteOf (operands this))) = ap length (encoding this) in
-      ap (λ (x : ℕ). getD bs x 0) (sym z) ∙ byte-there 0 (omega arith) .1 ∙ ap (λ (xs : List ℕ). getD xs 0 0) (encoding this)
-
-  -- operand p is one of those that are written
-  there : (p : ℕ) → (operandOf this p ≡ ofCount 0 → ⊥) → p < length (operands this)
-  there p n = go (decLt p (length (operands this)))
-    where
-      go : Dec (p < length (operands this)) → p < length (operands this)
-      go (yes l) = l
-      go (no l) = let f : length (operands this) ≤ p = omega arith in absurd (n (List·getD-eq-default (operands this) (ofCount 0) f))
-
-  operand-read : (p : ℕ) → p < length (operands this) → (at + 1 + p < length bs) × (getD bs (at + 1 + p) 0 ≡ byteOf (operandOf this p))
-  operand-read p l =
-      let z : at + 1 + p ≡ at + suc p = omega arith in
-      let n : length (encodeConstraint this) ≡ suc (length (map byteOf (operands this))) = ap length (encoding this) in
-      let b = byte-there (suc p) (omega (arith, length-map (operands this) byteOf)) in
-      (omega (arith, b .0), ap (λ (x : ℕ). getD bs x 0) z ∙ b .1 ∙ ap (λ (xs : List ℕ). getD xs (suc p) 0) (encoding this) ∙ List·getD-map byteOf (operands this) p (ofCount 0))
-
-  pub term-read : (p : ℕ) → TermAt this p → (at + 1 + p < length bs) × (operandOf this p ≡ ofTerm (term (getD bs (at + 1 + p) 0)))
-  term-read p t =
-      let r = operand-read p (there p (λ e. let q = sym (t .is) ∙ e in let y : _≡_ {A = ℕ} 0 1 = cc in omega arith)) in
-      (r .0, t .is ∙ ap (λ (x : ℕ). ofTerm (term x)) (sym (r .1 ∙ ap byteOf (t .is))))
-
-  pub set-read : (p : ℕ) → SetAt this p → (at + 1 + p < length bs) × (operandOf this p ≡ ofSet (setVar (getD bs (at + 1 + p) 0)))
-  set-read p t =
-      let r = operand-read p (there p (λ e. let q = sym (t .is) ∙ e in let y : _≡_ {A = ℕ} 0 1 = cc in omega arith)) in
-      (r .0, t .is ∙ ap (λ (x : ℕ). ofSet (setVar x)) (sym (r .1 ∙ ap byteOf (t .is))))
+      let f = kind-first this in
+      ap (λ (x : ℕ). getD bs x 0) (sym z) ∙ byte-there 0 (omega (arith, ap length (f .1))) .1 ∙ ap (λ (xs : List ℕ). getD xs 0 0) (f .1)
 
 -- ---- the entries of a list constraint
 

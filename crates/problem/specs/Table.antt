@@ -1,6 +1,6 @@
 -- A problem's table, and what is read through it. Assumes nothing: these are definitions.
 use mathlib.Core.Path.{_≡_}
-use mathlib.Core.List.{List, [], _∷_, map}
+use mathlib.Core.List.{List, []}
 use Prim.Native.Nat.{ℕ, _+_, _*_}
 use lib.ListN.{length, getD, replicate}
 use lib.IntN.{ℤ, pos}
@@ -80,39 +80,6 @@ kindOf (relation subset A B C) = 9
 kindOf (relation intersection A B C) = 10
 kindOf (exactly A es) = 11
 kindOf (interval A i j) = 12
-
--- an operand, by its sort: a term, a set variable, or how many entries follow
-pub data Operand : Type 0 where
-  ofTerm : Term → Operand
-  ofSet : SetVar → Operand
-  ofCount : ℕ → Operand
-
--- the operands of a constraint, in the order in which they are written
-abbrev pub operands : Constraint → List Operand
-operands (member t A) = ofTerm t ∷ ofSet A ∷ []
-operands (nonmember t A) = ofTerm t ∷ ofSet A ∷ []
-operands (same t u) = ofTerm t ∷ ofTerm u ∷ []
-operands (different t u) = ofTerm t ∷ ofTerm u ∷ []
-operands (relation equal A B C) = ofSet A ∷ ofSet B ∷ []
-operands (negation unequal A B C w) = ofSet A ∷ ofSet B ∷ []
-operands (relation union A B C) = ofSet A ∷ ofSet B ∷ ofSet C ∷ []
-operands (relation disjoint A B C) = ofSet A ∷ ofSet B ∷ []
-operands (relation subset A B C) = ofSet A ∷ ofSet B ∷ []
-operands (relation intersection A B C) = ofSet A ∷ ofSet B ∷ ofSet C ∷ []
-operands (exactly A es) = ofSet A ∷ ofCount (length es) ∷ map ofTerm es
-operands (interval A i j) = ofSet A ∷ ofTerm i ∷ ofTerm j ∷ []
-
-abbrev pub operandOf : Constraint → ℕ → Operand
-operandOf l p = getD (operands l) p (ofCount 0)
-
--- operand p is a term, or a set variable
-pub record TermAt (l : Constraint) (p : ℕ) : Type 0 where
-  pub operand : Term
-  pub is : operandOf l p ≡ ofTerm operand
-
-pub record SetAt (l : Constraint) (p : ℕ) : Type 0 where
-  pub operand : SetVar
-  pub is : operandOf l p ≡ ofSet operand
 
 -- the entries of a list constraint
 abbrev pub listed : Constraint → List Term

@@ -2,22 +2,19 @@
 mod sections;
 
 use questions::Sizes;
-use questions::value_at;
 use sections::constants_at;
 use sections::constraints_at;
 use sections::sets_at;
 use sections::variables_at;
-use terms::SetVar;
-use terms::Term;
 ghost use mathlib.Core.Path.{_≡_};
-ghost use mathlib.Core.List.{List, map};
-ghost use Prim.Native.Nat.{ℕ, _+_, _*_, _≤_, _<_};
-ghost use lib.ListN.{length, getD, drop};
-ghost use Rattle.calculus.specs.Terms.{term, setVar};
+ghost use mathlib.Core.List.{map};
+ghost use Prim.Native.Nat.{_+_, _*_, _≤_, _<_};
+ghost use lib.ListN.{length, drop};
+ghost use Rattle.calculus.specs.Terms.{term};
 ghost use Rattle.calculus.specs.Reading.{readConstraints};
 ghost use Rattle.questions.specs.Questions.{ConstantsRise, constantsOf};
 ghost use Rattle.problem.specs.Sections.{variablesOf, setsOf};
-ghost use Rattle.problem.specs.Table.{tableOf, tableIs, refusedTable, Opened, constantOf, kindOf, constraintOf, TermAt, SetAt, operandOf, ofTerm, ofSet, listed, witnessOf};
+ghost use Rattle.problem.specs.Table.{tableOf, tableIs, refusedTable, Opened, kindOf, constraintOf, listed};
 
 // A problem's table (specs/Table.antt says what it holds). Nothing else is kept: all is read from the problem's bytes.
 pub struct Table {
@@ -114,49 +111,6 @@ pub fn read(problem: &[u8]) -> Table
         variables.count,
         sets.count,
     )
-}
-
-// The value of constant t.
-pub fn constant(problem: &[u8], tab: Table, t: Term) -> i16
-    requires { ⌜ Opened (now problem) tab × (t .0 < tab .constants) ⌝ }
-    ensures { λ r. ⌜ r ≡ constantOf (now (problem .entry)) (t .0) ⌝ }
-{
-    value_at(problem, t)
-}
-
-// The kind of constraint i, 1 to 12.
-pub fn kind(problem: &[u8], tab: Table, i: usize) -> u8
-    requires { ⌜ Opened (now problem) tab × (i < tab .constraints) ⌝ }
-    ensures { λ r. ⌜ r ≡ kindOf (constraintOf (now (problem .entry)) i) ⌝ }
-{
-    let here = tab.offsets[i] as usize;
-    problem[here]
-}
-
-// Operand p of constraint i, where that is a term.
-pub fn term(problem: &[u8], tab: Table, i: usize, p: usize) -> Term
-    requires { ⌜ Opened (now problem) tab × (i < tab .constraints) × TermAt (constraintOf (now problem) i) p ⌝ }
-    ensures { λ r. ⌜ operandOf (constraintOf (now (problem .entry)) i) p ≡ ofTerm (term (r .0)) ⌝ }
-{
-    let at = tab.offsets[i] as usize;
-    Term(problem[at + 1 + p])
-}
-
-// Operand p of constraint i, where that is a set variable.
-pub fn set(problem: &[u8], tab: Table, i: usize, p: usize) -> SetVar
-    requires { ⌜ Opened (now problem) tab × (i < tab .constraints) × SetAt (constraintOf (now problem) i) p ⌝ }
-    ensures { λ r. ⌜ operandOf (constraintOf (now (problem .entry)) i) p ≡ ofSet (setVar (r .0)) ⌝ }
-{
-    let from = tab.offsets[i] as usize;
-    SetVar(problem[from + 1 + p])
-}
-
-// The witness of constraint i; where it has none, the next one.
-pub fn witness(tab: Table, i: usize) -> Term
-    requires { ⌜ i < 48 ⌝ }
-    ensures { λ r. ⌜ (r .0 ≡ getD (tab .witnesses) i 0) × ((bs : List ℕ) → Opened bs tab → term (r .0) ≡ witnessOf bs i) ⌝ }
-{
-    Term(tab.witnesses[i])
 }
 
 // The entries of a list constraint: the part of the problem that has them.

@@ -1,5 +1,4 @@
 // The questions that are asked of a problem's bytes, one function each.
-use terms::Term;
 ghost use mathlib.Core.Path.{_≡_};
 ghost use mathlib.Core.Bool.{_&&_};
 ghost use Prim.Native.Nat.{_+_, _*_, _≤_, _<_};
@@ -7,7 +6,7 @@ ghost use lib.ListN.{length, drop};
 ghost use lib.Dec.{ltb};
 ghost use Rattle.calculus.specs.Lists.{all};
 ghost use Rattle.calculus.specs.Reading.{ascending, inRange, letters, gapless, constraint};
-ghost use Rattle.questions.specs.Questions.{raisedAt, constantAt, constantsOf, parsedOf, ConstantsRise, refusedBy, acceptedTo, twoAt, threeAt, listAt, intervalAt};
+ghost use Rattle.questions.specs.Questions.{raisedAt, constantsOf, parsedOf, ConstantsRise, refusedBy, acceptedTo, twoAt, threeAt, listAt, intervalAt};
 
 // How many constants and set variables there are, and how many terms a constraint can name.
 pub struct Sizes {
@@ -31,23 +30,6 @@ pub fn raised(problem: &[u8], at: usize) -> u32
     let lo = problem[at] as u32;
     let hi = problem[at + 1] as u32;
     (lo + 256 * hi + 32768) % 65536
-}
-
-// The value of a constant's two bytes, in two's complement of 16 bits.
-pub fn value_at(problem: &[u8], t: Term) -> i16
-    requires { ⌜ 2 + 2 * t .0 < length (now problem) ⌝ }
-    ensures { λ r. ⌜ r ≡ constantAt (now (problem .entry)) (t .0) ⌝ }
-{
-    let at = 2 * (t.0 as usize);
-    let lo = problem[1 + at] as u16;
-    let hi = problem[2 + at] as u16;
-    let n = lo + 256 * hi;
-    if n < 32768 {
-        n as i16
-    } else {
-        let m = 65535 - n;
-        -1 - (m as i16)
-    }
 }
 
 // Question 3: the constants are strictly ascending, and from -32,000 to 32,000.

@@ -1,0 +1,11 @@
+-- Tables of examples: what the definitions give for each row is what the row expects. The expected values are those of document 01 or, beyond it, of a solver written separately from these definitions.
+pub mod Rows
+pub mod Document
+pub mod Mistakes
+pub mod Rules
+pub mod Refusals
+pub mod Limits
+pub mod Order
+pub mod Assignments
+pub mod AnswerWords
+pub mod Listings

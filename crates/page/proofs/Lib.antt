@@ -1,0 +1,8 @@
+pub mod Texts
+pub mod Values
+pub mod Members
+pub mod Items
+pub mod Headings
+pub mod LineLaws
+pub mod Shown
+pub mod Running

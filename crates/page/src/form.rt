@@ -1,0 +1,119 @@
+// The line of a solved form: what its model gives each variable and set.
+use crate::text::number;
+use crate::text::say;
+use branch::has;
+use checker::word;
+use problem::Table;
+ghost use mathlib.Core.Path.{_≡_};
+ghost use mathlib.Core.List.{_∷_, [], _++_};
+ghost use Prim.Native.Nat.{_+_, _*_, _≤_, _<_};
+ghost use lib.ListN.{length, getD};
+ghost use Rattle.calculus.specs.Terms.{term, setVar};
+ghost use Rattle.calculus.specs.Reading.{signed};
+ghost use Rattle.calculus.specs.Forms.{modelNumber, model};
+ghost use Rattle.problem.specs.Table.{Opened};
+ghost use Rattle.page.specs.Text.{braces};
+ghost use Rattle.page.specs.Listing.{formLine};
+ghost use Rattle.page.specs.Writing.{Wrote, Shaped, problemIn, led, inside, memberText, itemAt};
+
+// A separator, unless nothing was written since a place.
+fn lead(separator: u8, text: &mut [u8], start: usize, end: usize) -> usize
+    requires { ⌜ end + 1 ≤ length (now text) ⌝ }
+    ensures { λ r. ⌜ Wrote (now (text .entry)) end (led separator start end) r (now (text .exit)) × (r ≤ end + 1) ⌝ }
+{
+    if end == start {
+        return end;
+    }
+    let byte = [separator];
+    say(&byte, text, end)
+}
+
+// The value of term t in the model.
+fn value(problem: &[u8], tab: Table, form: &[u8], t: usize) -> u16
+    requires { ⌜ Opened (now problem) tab × Shaped (problemIn (now problem)) (now form) × (t < tab .terms) ⌝ }
+    ensures { λ r. ⌜ signed r ≡ modelNumber (problemIn (now (problem .entry))) (now (form .entry)) (term t) ⌝ }
+{
+    let h = form[3 * t] as usize;
+    if h < tab.constants as usize {
+        return word(problem, 1 + 2 * h);
+    }
+    32001 + (h as u16)
+}
+
+// Whether the class of root t is known to be in a set.
+fn is_inside(form: &[u8], t: usize, set: u8) -> bool
+    requires { ⌜ (3 * t + 2 < length (now form)) × (t < 64) × (set < 8) ⌝ }
+    ensures { λ r. ⌜ r ≡ inside (now (form .entry)) set t ⌝ }
+{
+    if form[3 * t] as usize != t {
+        return false;
+    }
+    has(form[3 * t + 1], set)
+}
+
+// The member of a set that term t stands for, if any, a comma before it unless it is the first.
+fn member(
+    problem: &[u8],
+    tab: Table,
+    form: &[u8],
+    set: u8,
+    t: usize,
+    text: &mut [u8],
+    start: usize,
+    end: usize,
+) -> usize
+    requires { ⌜ Opened (now problem) tab × Shaped (problemIn (now problem)) (now form) × (t < tab .terms) × (set < 8) × (end + 7 ≤ length (now text)) ⌝ }
+    ensures { λ r. ⌜ Wrote (now (text .entry)) end (memberText (problemIn (now (problem .entry))) (now (form .entry)) set t start end) r (now (text .exit)) × (r ≤ end + 7) ⌝ }
+{
+    if !is_inside(form, t, set) {
+        return end;
+    }
+    let next = lead(b',', text, start, end);
+    number(value(problem, tab, form, t), text, next)
+}
+
+// The members of a set.
+fn members(problem: &[u8], tab: Table, form: &[u8], set: u8, text: &mut [u8], at: usize) -> usize
+    requires { ⌜ Opened (now problem) tab × Shaped (problemIn (now problem)) (now form) × (set < 8) × (at + 450 ≤ length (now text)) ⌝ }
+    ensures { λ r. ⌜ Wrote (now (text .entry)) at (braces (model (problemIn (now (problem .entry))) (now (form .entry)) .members (setVar set))) r (now (text .exit)) × (r ≤ at + 450) ⌝ }
+{
+    let start = say(b"{", text, at);
+    let mut end = start;
+    let terms = tab.terms as usize;
+    for t in 0..terms {
+        end = member(problem, tab, form, set, t, text, start, end);
+    }
+    say(b"}", text, end)
+}
+
+// A variable or a set: its letter, an equals sign and its value.
+fn item(problem: &[u8], tab: Table, form: &[u8], k: usize, text: &mut [u8], at: usize) -> usize
+    requires { ⌜ Opened (now problem) tab × Shaped (problemIn (now problem)) (now form) × (k < tab .variables + tab .sets) × (at + 452 ≤ length (now text)) ⌝ }
+    ensures { λ r. ⌜ Wrote (now (text .entry)) at (itemAt (problemIn (now (problem .entry))) (now (form .entry)) k) r (now (text .exit)) × (r ≤ at + 452) ⌝ }
+{
+    let constants = tab.constants as usize;
+    let variables = tab.variables as usize;
+    if k < variables {
+        let name = [problem[2 + 2 * constants + k], b'='];
+        let end = say(&name, text, at);
+        let x = value(problem, tab, form, constants + k);
+        return number(x, text, end);
+    }
+    let name = [problem[3 + 2 * constants + k], b'='];
+    let end = say(&name, text, at);
+    members(problem, tab, form, (k - variables) as u8, text, end)
+}
+
+// The line of a solved form.
+pub fn form_line(problem: &[u8], tab: Table, form: &[u8], text: &mut [u8]) -> usize
+    requires { ⌜ Opened (now problem) tab × Shaped (problemIn (now problem)) (now form) × (32768 ≤ length (now text)) ⌝ }
+    ensures { λ r. ⌜ Wrote (now (text .entry)) 0 (formLine (problemIn (now (problem .entry))) (now (form .entry))) r (now (text .exit)) ⌝ }
+{
+    let count = tab.variables as usize + tab.sets as usize;
+    let mut end = 0;
+    for k in 0..count {
+        let next = lead(b' ', text, 0, end);
+        end = item(problem, tab, form, k, text, next);
+    }
+    say(b"\n", text, end)
+}
