@@ -74,7 +74,7 @@ fn holds_at(k: Relation, part: &[u8], l: &[u8], m: &[u8], r: &[u8]) -> bool
 }
 
 // Whether a relation holds of three sets; it is tested at their members, elsewhere it holds.
-pub fn relates(k: Relation, l: &[u8], m: &[u8], r: &[u8]) -> bool
+fn relates(k: Relation, l: &[u8], m: &[u8], r: &[u8]) -> bool
     ensures { λ v. ⌜ v ≡ relates? (relationOf k) (words (now (l .entry))) (words (now (m .entry))) (words (now (r .entry))) ⌝ }
 {
     if !holds_at(k, l, l, m, r) {
@@ -87,7 +87,7 @@ pub fn relates(k: Relation, l: &[u8], m: &[u8], r: &[u8]) -> bool
 }
 
 // The value of a term that a constraint can name: its two bytes in the problem or in the assignment.
-pub fn value(problem: &[u8], tab: Table, assignment: &[u8], t: Term) -> u16
+fn value(problem: &[u8], tab: Table, assignment: &[u8], t: Term) -> u16
     requires { ⌜ Readable (now problem) tab (now assignment) (t .0) ⌝ }
     ensures { λ r. ⌜ (signed r ≡ numberOf (now (problem .entry)) tab (now (assignment .entry)) (t .0)) × (r < 65536) ⌝ }
 {
@@ -111,7 +111,7 @@ fn listed(problem: &[u8], tab: Table, assignment: &[u8], list: &[u8], x: u16) ->
 }
 
 // Whether every member is the value of some entry, and every entry's value is a member.
-pub fn exactly(problem: &[u8], tab: Table, assignment: &[u8], list: &[u8], members: &[u8]) -> bool
+fn exactly(problem: &[u8], tab: Table, assignment: &[u8], list: &[u8], members: &[u8]) -> bool
     requires { ⌜ Each (Readable (now problem) tab (now assignment)) (now list) ⌝ }
     ensures { λ r. ⌜ r ≡ (entriesIn (now (problem .entry)) tab (now (assignment .entry)) (now (list .entry)) (words (now (members .entry)))) ⌝ }
 {
