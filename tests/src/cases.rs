@@ -70,6 +70,31 @@ fn cases() -> Vec<Case> {
     ]
 }
 
+/// Further cases, worked by hand.
+fn further() -> Vec<Case> {
+    use answer::*;
+    let case = |name, sheet, word, forms, trace| Case { name, sheet, budget: 9, room: 99, word, forms, trace };
+    vec![
+        // x in A, y in B, x = y: the class has both facts.
+        case(
+            "facts meet", "00 02 78 79 02 41 42 03 01 00 00 01 01 01 03 00 01", ended(FORMS, 3, 1),
+            "00 03 00 00 03 00", "01 00 00 01 01 01 01 01 03 02 00 01",
+        ),
+        // y in A, x out of A, x = y.
+        case(
+            "facts contradict", "00 02 78 79 01 41 03 01 01 00 02 00 00 03 00 01", ended(FALSE, 3, 0),
+            "", "01 00 01 01 02 01 00 01 03 02 00 00",
+        ),
+        // Constants -1 and 1.
+        case("signs", "02 FF FF 01 00 00 00 00", ended(FORMS, 0, 1), "00 00 00 01 00 00", ""),
+        // Constants -1 and 0, A = [-1, 0].
+        case(
+            "interval over 0", "02 FF FF 00 00 00 01 41 01 0C 00 00 01", ended(FORMS, 2, 1),
+            "00 01 00 01 01 00", "13 00 00 01 13 00 01 01",
+        ),
+    ]
+}
+
 fn expect(case: &Case, run: impl Fn(&[u8], u64, &mut [u8], &mut [u8]) -> u64) {
     let sheet = hex(case.sheet);
     let mut forms: Vec<u8> = (0..case.room).map(|at| (at * 7 + 0xA5) as u8).collect();
@@ -95,6 +120,22 @@ fn cases_of_document_01_on_this_solver() {
 #[test]
 fn cases_of_document_01_on_the_library() {
     for case in cases() {
+        expect(&case, |sheet, budget, forms, trace| {
+            ffi::run(sheet, budget, forms, trace, 77).unwrap()
+        });
+    }
+}
+
+#[test]
+fn further_cases_on_this_solver() {
+    for case in further() {
+        expect(&case, solver::run);
+    }
+}
+
+#[test]
+fn further_cases_on_the_library() {
+    for case in further() {
         expect(&case, |sheet, budget, forms, trace| {
             ffi::run(sheet, budget, forms, trace, 77).unwrap()
         });

@@ -38,11 +38,14 @@ pub fn thread_time() -> u64 {
 
 const GUARD: usize = 256;
 
-/// A buffer with guard bytes on both sides. What the guards hold depends on
-/// `salt`, so a read outside the buffer changes answers from call to call.
+/// A buffer with guard bytes on both sides. What the guards hold, and how the
+/// buffer is aligned, depend on `salt`, so a read outside the buffer changes
+/// answers from call to call.
 struct Lent {
     bytes: Vec<u8>,
     salt: u64,
+    /// Where the buffer starts; there are `GUARD` bytes after it.
+    start: usize,
 }
 
 fn guard_byte(salt: u64, at: usize) -> u8 {
@@ -52,28 +55,27 @@ fn guard_byte(salt: u64, at: usize) -> u8 {
 
 impl Lent {
     fn new(content: &[u8], salt: u64) -> Lent {
-        let mut bytes = Vec::with_capacity(content.len() + 2 * GUARD);
-        bytes.extend((0..GUARD).map(|at| guard_byte(salt, at)));
+        let start = GUARD + (salt >> 20) as usize % 16;
+        let mut bytes = Vec::with_capacity(start + content.len() + GUARD);
+        bytes.extend((0..start).map(|at| guard_byte(salt, at)));
         bytes.extend_from_slice(content);
-        bytes.extend((0..GUARD).map(|at| guard_byte(salt, at + GUARD)));
-        Lent { bytes, salt }
+        bytes.extend((start..start + GUARD).map(|at| guard_byte(salt, at)));
+        Lent { bytes, salt, start }
     }
 
     fn content(&self) -> &[u8] {
-        &self.bytes[GUARD..self.bytes.len() - GUARD]
+        &self.bytes[self.start..self.bytes.len() - GUARD]
     }
 
     fn content_mut(&mut self) -> &mut [u8] {
         let end = self.bytes.len() - GUARD;
-        &mut self.bytes[GUARD..end]
+        &mut self.bytes[self.start..end]
     }
 
     fn guards_whole(&self) -> bool {
-        let after = self.bytes.len() - GUARD;
-        (0..GUARD).all(|at| {
-            self.bytes[at] == guard_byte(self.salt, at)
-                && self.bytes[after + at] == guard_byte(self.salt, at + GUARD)
-        })
+        let after = &self.bytes[self.bytes.len() - GUARD..];
+        let guards = self.bytes[..self.start].iter().chain(after);
+        guards.enumerate().all(|(at, &byte)| byte == guard_byte(self.salt, at))
     }
 }
 
@@ -142,4 +144,24 @@ pub fn check(problem: &[u8], setting: &[u8], salt: u64) -> Result<u64, &'static 
         return Err("the setting or its surroundings were written to");
     }
     Ok(word)
+}
+
+#[cfg(test)]
+mod tests {
+    use super::*;
+
+    #[test]
+    fn a_changed_guard_is_seen() {
+        for (length, salt) in [(0, 5), (1, 77 << 20), (9, u64::MAX), (192, 3 << 20)] {
+            let mut lent = Lent::new(&vec![7; length], salt);
+            assert!(lent.guards_whole() && lent.content() == vec![7; length]);
+            lent.content_mut().fill(8);
+            assert!(lent.guards_whole() && lent.content() == vec![8; length]);
+            for at in (0..lent.start).chain(lent.start + length..lent.bytes.len()) {
+                lent.bytes[at] ^= 1;
+                assert!(!lent.guards_whole());
+                lent.bytes[at] ^= 1;
+            }
+        }
+    }
 }

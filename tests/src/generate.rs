@@ -192,7 +192,10 @@ fn draw_size(rng: &mut Rng) -> Size {
         // No names.
         8 => set(rng.between(1, 10), 0, rng.between(1, 8), rng.between(2, 20)),
         // No sets: only kinds 3 and 4.
-        9 if rng.percent(30) => set(rng.below(6), rng.between(1, 12), 0, rng.between(1, 20)),
+        9 if rng.percent(40) => {
+            set(rng.below(6), rng.between(1, 12), 0, rng.between(1, 20));
+            size.noise = *rng.pick(&[0, 100]);
+        }
         // Lists and intervals.
         9 | 10 => {
             set(rng.between(1, 12), rng.between(2, 8), rng.between(1, 4), rng.between(3, 14));
@@ -491,7 +494,7 @@ fn draw_mixed(rng: &mut Rng) -> Drawn {
         };
         draft.lines.extend(line);
     }
-    if rng.percent(85) {
+    if rng.percent(95) {
         open_up(rng, &mut draft, &plan);
     }
     Drawn { draft, plan }
@@ -515,12 +518,15 @@ fn open_up(rng: &mut Rng, draft: &mut Draft, plan: &Plan) {
     let from = draft.constants.len();
     let inside: Vec<usize> = (from..draft.nameable())
         .filter(|&t| plan.sets[a as usize].contains(&plan.value(draft, t)))
+        .filter(|&t| kind != 11 || !line[3..].contains(&(t as u8)))
         .collect();
     let at = rng.below(draft.lines.len() + 1);
     draft.lines.insert(at, line);
     if !inside.is_empty() {
         draft.lines.push(vec![1, *rng.pick(&inside) as u8, a]);
-    } else if draft.terms() < MAX_TERMS && kind != 6 {
+    }
+    if draft.terms() < MAX_TERMS && kind != 6 && (inside.is_empty() || rng.percent(60)) {
+        draft.lines.truncate(MAX_LINES - 1);
         draft.lines.extend(true_line(rng, draft, plan, 6));
     }
 }
@@ -529,7 +535,7 @@ fn open_up(rng: &mut Rng, draft: &mut Draft, plan: &Plan) {
 /// the last link between them is made; with a link left out at times.
 fn draw_chain(rng: &mut Rng) -> Drawn {
     let links = rng.between(1, 7);
-    let constants = rng.below(3);
+    let constants = *rng.pick(&[0, 0, 1, 2, 2]);
     let mut draft = Draft {
         constants: draw_constants(rng, constants),
         names: draw_letters(rng, links + 1, b'a'),
@@ -539,7 +545,7 @@ fn draw_chain(rng: &mut Rng) -> Drawn {
     let name = |at: usize| (constants + at) as u8;
     let mut chain: Vec<u8> = (0..=links).map(name).collect();
     rng.shuffle(&mut chain);
-    let left_out = if rng.percent(50) { rng.below(links) } else { links };
+    let left_out = if rng.percent(35) { rng.below(links) } else { links };
     for (at, pair) in chain.windows(2).enumerate() {
         if at == left_out {
             continue;
@@ -554,8 +560,16 @@ fn draw_chain(rng: &mut Rng) -> Drawn {
         }
     }
     let (first, last) = (chain[0], chain[links]);
-    match rng.below(5) {
-        0 => draft.lines.extend([vec![1, first, 0], vec![2, last, 0]]),
+    match rng.below(11) {
+        0 | 6 => draft.lines.extend([vec![1, first, 0], vec![2, last, 0]]),
+        7 | 8 => draft.lines.extend([vec![2, first, 0], vec![1, last, 0]]),
+        // out of D, which lists the other.
+        9 => draft.lines.extend([vec![2, first, 3], vec![11, 3, 1, last]]),
+        // in the union of A and B, but in neither.
+        4 | 5 => {
+            let middle = *rng.pick(&chain);
+            draft.lines.extend([vec![1, first, 2], vec![2, last, 1], vec![2, middle, 0], vec![7, 0, 1, 2]]);
+        }
         1 => draft.lines.push(vec![4, last, first]),
         2 if constants == 2 => draft.lines.extend([vec![3, first, 0], vec![3, 1, last]]),
         // in A, A within B, B apart from C, in C.
@@ -573,10 +587,20 @@ fn draw_chain(rng: &mut Rng) -> Drawn {
     if rng.percent(30) {
         draft.lines.push(vec![6, rng.below(4) as u8, rng.below(4) as u8]);
     }
-    if rng.percent(70) {
-        rng.shuffle(&mut draft.lines);
+    match rng.below(3) {
+        0 => rng.shuffle(&mut draft.lines),
+        // Facts first, links last.
+        1 => draft.lines.reverse(),
+        _ => {}
     }
-    let plan = draw_plan(rng, &draft, 4);
+    if rng.percent(25) {
+        draft.sets.clear();
+        draft.lines.retain(|line| matches!(line[0], 3 | 4));
+        if constants == 2 {
+            draft.lines.extend([vec![3, first, 0], vec![3, 1, last]]);
+        }
+    }
+    let plan = draw_plan(rng, &draft, draft.sets.len());
     Drawn { draft, plan }
 }
 
@@ -607,10 +631,136 @@ fn draw_places(rng: &mut Rng) -> Drawn {
             }
         }
     }
+    if rng.percent(40) {
+        // Some places are marked, and some names stand on such a one.
+        for t in 0..places + names {
+            if rng.percent(if t < places { 60 } else { 20 }) {
+                draft.lines.push(vec![1 + rng.below(2) as u8, t as u8, 1]);
+            }
+        }
+    }
     if rng.percent(50) {
         rng.shuffle(&mut draft.lines);
     }
     let plan = draw_plan(rng, &draft, 2);
+    Drawn { draft, plan }
+}
+
+/// Names that a list says are among its entries, with facts of both that meet
+/// when rule 20 joins them. Then several rules apply at once.
+fn draw_meeting(rng: &mut Rng) -> Drawn {
+    let (constants, entries, inside) = (rng.below(4), rng.between(1, 3), rng.between(1, 2));
+    let mut draft = Draft {
+        constants: draw_constants(rng, constants),
+        names: draw_letters(rng, entries + inside, b'a'),
+        sets: draw_letters(rng, 8, b'A'),
+        lines: Vec::new(),
+    };
+    // Names are numbered from here; their order says which head stays.
+    let mut names: Vec<u8> = (constants..constants + entries + inside).map(|t| t as u8).collect();
+    rng.shuffle(&mut names);
+    let (listed, members) = names.split_at(entries);
+    let mut plan = Plan { values: vec![0; entries + inside], sets: Vec::new() };
+    for &t in listed {
+        let taken = constants > 0 && rng.percent(30);
+        plan.values[t as usize - constants] =
+            if taken { *rng.pick(&draft.constants) } else { rng.next() as i16 };
+    }
+    let mut list: Vec<u8> = listed.to_vec();
+    list.extend((0..constants as u8).filter(|_| rng.percent(25)));
+    rng.shuffle(&mut list);
+    for &t in members {
+        plan.values[t as usize - constants] = plan.value(&draft, *rng.pick(&list) as usize);
+    }
+    let mut domain: Vec<i16> = draft.constants.iter().chain(&plan.values).copied().collect();
+    domain.push(rng.next() as i16);
+    let drawn: Vec<BTreeSet<i16>> =
+        (0..3).map(|_| domain.iter().copied().filter(|_| rng.percent(50)).collect()).collect();
+    let [a, b, e] = [&drawn[0], &drawn[1], &drawn[2]];
+    let of_list = list.iter().map(|&t| plan.value(&draft, t as usize)).collect();
+    // A, B, their intersection and union, E, the union of B and E, the
+    // intersection of A and E, the list.
+    plan.sets = vec![a.clone(), b.clone(), a & b, a | b, e.clone(), b | e, a & e, of_list];
+    let mut lines = vec![vec![10, 0, 1, 2], vec![7, 0, 1, 3], vec![7, 1, 4, 5], vec![10, 0, 4, 6]];
+    rng.shuffle(&mut lines);
+    lines.truncate(rng.between(2, 4));
+    // Each side most often knows what the other does not.
+    for (at, &t) in names.iter().enumerate() {
+        let telling: &[u8] = if at < entries { &[0, 3, 5] } else { &[1, 4] };
+        for set in 0..7 {
+            if rng.percent(if telling.contains(&set) { 75 } else { 8 }) {
+                let holds = plan.sets[set as usize].contains(&plan.value(&draft, t as usize));
+                lines.push(vec![if holds { 1 } else { 2 }, t, set]);
+            }
+        }
+    }
+    if rng.percent(30) {
+        lines.push(vec![4, *rng.pick(members), *rng.pick(listed)]);
+    }
+    let mut line = vec![11, 7, list.len() as u8];
+    line.extend(&list);
+    lines.extend(members.iter().map(|&t| vec![1, t, 7]));
+    if rng.percent(50) {
+        rng.shuffle(&mut lines);
+    }
+    // The list goes first of all splits, or anywhere.
+    let at = if rng.percent(70) { 0 } else { rng.below(lines.len() + 1) };
+    lines.insert(at, line);
+    draft.lines = lines;
+    Drawn { draft, plan }
+}
+
+/// Unions of unions, with names in them of which little else is known.
+fn draw_unions(rng: &mut Rng) -> Drawn {
+    let (constants, names, sets) = (rng.below(3), rng.between(1, 4), rng.between(3, 8));
+    let mut draft = Draft {
+        constants: draw_constants(rng, constants),
+        names: draw_letters(rng, names, b'a'),
+        sets: draw_letters(rng, sets, b'A'),
+        lines: Vec::new(),
+    };
+    let mut plan = draw_plan(rng, &draft, 2);
+    let domain: Vec<i16> = draft.constants.iter().chain(&plan.values).copied().collect();
+    for set in &mut plan.sets {
+        set.extend(domain.iter().filter(|_| rng.percent(50)));
+    }
+    while plan.sets.len() < sets {
+        if rng.percent(25) {
+            plan.sets.push(domain.iter().copied().filter(|_| rng.percent(40)).collect());
+            continue;
+        }
+        let (a, b, c) = (rng.below(plan.sets.len()), rng.below(plan.sets.len()), plan.sets.len());
+        plan.sets.push(&plan.sets[a] | &plan.sets[b]);
+        draft.lines.push(vec![7, a as u8, b as u8, c as u8]);
+    }
+    // The later sets are the unions.
+    for t in 0..draft.nameable() {
+        let of: Vec<usize> = (2..sets).filter(|&s| plan.sets[s].contains(&plan.value(&draft, t))).collect();
+        if !of.is_empty() && rng.percent(80) {
+            draft.lines.push(vec![1, t as u8, *rng.pick(&of) as u8]);
+        }
+    }
+    for _ in 0..rng.below(4) {
+        let kind = *rng.pick(&[2, 3, 4, 6, 8, 9, 10]);
+        draft.lines.extend(true_line(rng, &draft, &plan, kind));
+    }
+    rng.shuffle(&mut draft.lines);
+    Drawn { draft, plan }
+}
+
+/// A problem with hardly anything in it, or nothing.
+fn draw_bare(rng: &mut Rng) -> Drawn {
+    let count = rng.below(3);
+    let mut draft = Draft { constants: draw_constants(rng, count), ..Draft::default() };
+    let count = *rng.pick(&[0, 0, 1, 26]);
+    draft.names = draw_letters(rng, count, b'a');
+    let count = *rng.pick(&[0, 0, 1, 8]);
+    draft.sets = draw_letters(rng, count, b'A');
+    let plan = draw_plan(rng, &draft, count);
+    for _ in 0..rng.below(3) {
+        let kind = 1 + rng.below(12) as u8;
+        draft.lines.extend(any_line(rng, &draft, kind));
+    }
     Drawn { draft, plan }
 }
 
@@ -648,14 +798,71 @@ fn draw_long(rng: &mut Rng) -> Drawn {
     drawn
 }
 
+/// As large as a problem can be: 64 terms, 8 sets, 48 constraints, 4,096 bytes.
+fn draw_full(rng: &mut Rng) -> Drawn {
+    let witnesses = rng.below(9);
+    let mut draft = Draft {
+        constants: draw_constants(rng, MAX_TERMS - 26 - witnesses),
+        names: draw_letters(rng, 26, b'a'),
+        sets: draw_letters(rng, MAX_SETS, b'A'),
+        lines: Vec::new(),
+    };
+    let mut plan = draw_plan(rng, &draft, MAX_SETS);
+    // One set at least that a list can say.
+    let few: Vec<i16> = (0..3).map(|_| plan.value(&draft, rng.below(draft.nameable()))).collect();
+    plan.sets[0] = few.into_iter().collect();
+    let lists = rng.between(18, 26);
+    while draft.lines.len() < MAX_LINES - lists {
+        let kind = if draft.terms() < MAX_TERMS { 6 } else { *rng.pick(&[1, 1, 2, 2, 3, 4, 5, 7, 8, 9, 10, 12]) };
+        let line = true_line(rng, &draft, &plan, kind).or_else(|| any_line(rng, &draft, kind));
+        draft.lines.extend(line);
+    }
+    for left in (1..=lists).rev() {
+        let room = MAX_BYTES - draft.bytes().len();
+        let Some(mut line) = true_line(rng, &draft, &plan, 11) else { unreachable!("set 0 can be listed") };
+        if line[2] == 0 {
+            // An empty set's list cannot be made longer: list set 0.
+            let entries = (0..draft.nameable()).filter(|&t| plan.sets[0].contains(&plan.value(&draft, t)));
+            line = vec![11, 0, 0];
+            line.extend(entries.map(|t| t as u8));
+        }
+        let entries = line[3..].to_vec();
+        line.resize_with(room / left, || *rng.pick(&entries));
+        line[2] = (line.len() - 3) as u8;
+        draft.lines.push(line);
+    }
+    if rng.percent(50) {
+        rng.shuffle(&mut draft.lines);
+    }
+    Drawn { draft, plan }
+}
+
 /// A well formed problem: it passes questions 1 to 11.
 pub fn draw(rng: &mut Rng) -> Drawn {
     match rng.below(40) {
         0..=3 => draw_chain(rng),
-        4..=6 => draw_places(rng),
-        7 => draw_long(rng),
+        4 | 5 => draw_places(rng),
+        6 if rng.percent(30) => draw_full(rng),
+        6 => draw_long(rng),
+        7..=13 => draw_meeting(rng),
+        14..=19 => draw_unions(rng),
+        20 => draw_bare(rng),
         _ => draw_mixed(rng),
     }
+}
+
+/// The problem with one constraint put in the place of constraint `at` that is
+/// not true of the plan, of the kind if one is found; else none.
+pub fn untrue_at(rng: &mut Rng, drawn: &Drawn, at: usize, kind: u8) -> Option<Draft> {
+    let mut draft = drawn.draft.clone();
+    for _ in 0..20 {
+        draft.lines[at] = any_line(rng, &draft, kind)?;
+        let alone = Draft { lines: vec![draft.lines[at].clone()], ..draft.clone() };
+        if crate::check::check(&alone.bytes(), &drawn.plan.bytes()) == crate::answer::fails(0) {
+            return (draft.terms() <= MAX_TERMS).then_some(draft);
+        }
+    }
+    None
 }
 
 /// A problem with a fault meant to be refused by `number`, 1 to 11 (where the
@@ -743,7 +950,7 @@ fn faulty(draft: &Draft, line: &[u8]) -> bool {
 fn damage_bytes(rng: &mut Rng, d: &Draft, bytes: &mut Vec<u8>, number: u8, cut: usize) {
     match number {
         1 => {
-            let length = *rng.pick(&[MAX_BYTES + 1, MAX_BYTES + 2, 5000, 9000]);
+            let length = *rng.pick(&[MAX_BYTES + 1, MAX_BYTES + 1, MAX_BYTES + 2, 9000]);
             bytes.resize(length.max(bytes.len()), rng.next() as u8);
         }
         2 => {
@@ -829,7 +1036,8 @@ fn damage_parts(rng: &mut Rng, d: &mut Draft, number: u8) {
                     line[entry] = terms + past;
                 }
                 12 if rng.percent(70) => line[2 + rng.below(2)] = terms + past,
-                _ => line[1] = sets + past,
+                // (A line that fault 7 put there may be of one byte.)
+                _ => line.iter_mut().skip(1).take(1).for_each(|byte| *byte = sets + past),
             }
         }
         9 => {
@@ -932,11 +1140,23 @@ pub fn near(rng: &mut Rng, sheet: &Sheet, plan: &Plan) -> Plan {
     near
 }
 
+/// A setting with a set as large as its count byte can say.
+pub fn wide(rng: &mut Rng, plan: &Plan) -> Plan {
+    let mut wide = plan.clone();
+    if !wide.sets.is_empty() {
+        let at = rng.below(wide.sets.len());
+        while wide.sets[at].len() < 255 {
+            wide.sets[at].insert(rng.next() as i16);
+        }
+    }
+    wide
+}
+
 pub const WAYS: usize = 8;
 
-/// A setting made malformed in one of `WAYS` ways (where there is what it
-/// takes; else it is cut short or made longer).
-pub fn malform(rng: &mut Rng, plan: &Plan, way: usize) -> Vec<u8> {
+/// A setting made malformed in one of `WAYS` ways, and true; where there is
+/// not what it takes, one cut short or made longer, and false.
+pub fn malform(rng: &mut Rng, plan: &Plan, way: usize) -> (Vec<u8>, bool) {
     let mut bytes = plan.bytes();
     // Where the count byte of each set stands.
     let mut counts = Vec::new();
@@ -973,10 +1193,14 @@ pub fn malform(rng: &mut Rng, plan: &Plan, way: usize) -> Vec<u8> {
             let (at, _) = counts[counts.len() - 1];
             bytes[at] -= 1;
         }
-        _ if rng.percent(50) => {
-            bytes.pop();
+        _ => {
+            if rng.percent(50) {
+                bytes.pop();
+            } else {
+                bytes.push(0);
+            }
+            return (bytes, false);
         }
-        _ => bytes.push(0),
     }
-    bytes
+    (bytes, true)
 }

@@ -2,6 +2,7 @@
 //! needed to compare the library with it.
 
 pub mod check;
+pub mod coverage;
 pub mod ffi;
 pub mod generate;
 pub mod listing;

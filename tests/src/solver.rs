@@ -279,7 +279,7 @@ pub fn run(problem: &[u8], budget: u64, forms: &mut [u8], trace: &mut [u8]) -> u
                 return answer::ended(answer::SPENT, steps, listed);
             }
             branch.path += 1;
-            debug_assert!(branch.path <= longest, "demand 3: a path is too long");
+            assert!(branch.path <= longest, "demand 3: a path is too long");
             let (open, left) = match place.act {
                 Act::Close => (false, 0),
                 Act::Note(ins, outs) => {

@@ -1,13 +1,17 @@
 //! Compares the library with the separately written solver, on seeded
 //! problems: every answer, every byte of both buffers.
 //!
-//! differential [problems] [seed]
+//! It counts what it tries. Unless it is told to be short it fails if
+//! something wanted was not reached.
+//!
+//! differential [problems] [seed] [short]
 
 use separate::answer;
 use separate::check::{check, Setting};
+use separate::coverage::{kinds, Coverage};
 use separate::ffi;
 use separate::generate::{self, Draft, Drawn, Plan, Rng};
-use separate::sheet::Sheet;
+use separate::sheet::{Sheet, MAX_BYTES};
 use separate::solver;
 use std::process::exit;
 
@@ -21,16 +25,10 @@ struct Counts {
     split_problems: u64,
     runs: u64,
     split_runs: u64,
-    ended_steps_equal_budget: u64,
-    verdicts: [u64; 7],
-    refusals: [u64; 15],
-    rules: [u64; 21],
     most_steps: u64,
     most_forms: u64,
-    longest: usize,
-    most_terms: usize,
-    settings: [u64; 7],
-    checks_compared: u64,
+    checks: u64,
+    coverage: Coverage,
 }
 
 fn hex(bytes: &[u8]) -> String {
@@ -41,14 +39,9 @@ fn is_split(rule: u8) -> bool {
     matches!(rule, 7 | 12 | 20)
 }
 
-struct Compared {
-    word: u64,
-    trace: Vec<u8>,
-}
-
 /// One run of both, on buffers of these lengths. Ends the program if they
 /// differ in anything.
-fn compare(problem: &[u8], budget: u64, room: usize, traced: usize, rng: &mut Rng, counts: &mut Counts) -> Compared {
+fn compare(problem: &[u8], budget: u64, room: usize, traced: usize, rng: &mut Rng, counts: &mut Counts) -> u64 {
     let mut forms = vec![0; room];
     let mut trace = vec![0; traced];
     rng.fill(&mut forms);
@@ -104,23 +97,40 @@ fn compare(problem: &[u8], budget: u64, room: usize, traced: usize, rng: &mut Rn
     }
 
     counts.runs += 1;
-    counts.verdicts[answer::verdict(word) as usize] += 1;
-    if answer::verdict(word) == answer::REFUSED {
-        counts.refusals[answer::number(word) as usize] += 1;
-    } else {
-        counts.ended_steps_equal_budget +=
-            (answer::steps(word) == budget && answer::verdict(word) != answer::SPENT) as u64;
-    }
     counts.most_steps = counts.most_steps.max(answer::steps(word));
     counts.most_forms = counts.most_forms.max(answer::forms(word));
+    let (verdict, listed) = (answer::verdict(word), answer::forms(word));
+    let coverage = &mut counts.coverage;
+    coverage.see("runs answering", answer::NAMES[verdict as usize]);
+    let mut with = |name: &str, seen: bool| coverage.see_if("runs with", name, seen);
+    let fourfold = budget.checked_mul(4);
+    if verdict == answer::REFUSED {
+        let number = answer::number(word);
+        with("budget 10,001", number == 12 && budget == 10_001);
+        with("budget whose fourfold is past 64 bits", number == 12 && fourfold.is_none());
+        with("trace buffer one byte short", number == 13 && fourfold == Some(traced as u64 + 1));
+        coverage.see_number("runs refused by", number);
+    } else {
+        with("budget 0", budget == 0);
+        with("budget 1", budget == 1);
+        with("budget 10,000", budget == 10_000);
+        with("trace buffer of 0 bytes", traced == 0);
+        with("trace buffer exact", fourfold == Some(traced as u64));
+        with("trace buffer with bytes left", fourfold < Some(traced as u64));
+        with("form buffer with bytes left", written < room);
+        with("steps equal to the budget and no SPENT", answer::steps(word) == budget && verdict != answer::SPENT);
+        with("SPENT after some form", verdict == answer::SPENT && listed > 0);
+        with("NO ROOM after some form", verdict == answer::NO_ROOM && listed > 0);
+        with("more than 65,535 forms", listed > 65_535);
+    }
     trace.truncate(recorded);
     counts.split_runs += trace.chunks_exact(4).any(|record| is_split(record[0])) as u64;
-    Compared { word, trace }
+    word
 }
 
 /// What the answers mean, by the hand check: every worked setting meets the
 /// sheet, and a setting that meets the sheet meets a form.
-fn judge(problem: &[u8], plan: &Plan, word: u64, forms: &[u8], rng: &mut Rng, counts: &mut Counts) {
+fn judge(problem: &[u8], drawn: &Drawn, word: u64, forms: &[u8], rng: &mut Rng, counts: &mut Counts) {
     let fail = |what: &str| -> ! {
         println!("FAULT in meaning: {what}: {}", hex(problem));
         exit(1)
@@ -129,6 +139,7 @@ fn judge(problem: &[u8], plan: &Plan, word: u64, forms: &[u8], rng: &mut Rng, co
     let size = 3 * sheet.terms;
     let listed = answer::forms(word) as usize;
     let record = |at: usize| &forms[at * size..(at + 1) * size];
+    let plan = &drawn.plan;
     let mut settings = vec![plan.bytes()];
     for at in 0..listed.min(40) {
         let worked = Plan::worked(&sheet, record(at));
@@ -138,28 +149,53 @@ fn judge(problem: &[u8], plan: &Plan, word: u64, forms: &[u8], rng: &mut Rng, co
         settings.push(worked.bytes());
         if at < 3 {
             settings.push(generate::near(rng, &sheet, &worked).bytes());
-            let way = rng.below(generate::WAYS);
-            settings.push(generate::malform(rng, &worked, way));
+            malformed(problem, &worked, rng, counts);
         }
     }
-    let way = rng.below(generate::WAYS);
-    settings.push(generate::malform(rng, plan, way));
+    malformed(problem, plan, rng, counts);
     settings.push(generate::near(rng, &sheet, plan).bytes());
+    if rng.percent(10) {
+        settings.push(generate::wide(rng, plan).bytes());
+    }
     let finished = matches!(answer::verdict(word), answer::FORMS | answer::FALSE);
     for setting in settings {
-        let answered = check(problem, &setting);
-        counts.settings[answer::verdict(answered) as usize] += 1;
+        let answered = compare_check(problem, &setting, rng, counts);
         if answered == answer::HOLDS && finished {
             let setting = Setting::read(&sheet, &setting).unwrap();
             if !(0..listed).any(|at| setting.meets_facts(&sheet, record(at))) {
                 fail("a solution meets no listed form");
             }
         }
-        compare_check(problem, &setting, rng, counts);
+    }
+    let whole = problem == drawn.draft.bytes();
+    if !whole || sheet.lines.is_empty() || check(problem, &plan.bytes()) != answer::HOLDS {
+        return;
+    }
+    // The plan holds: make one constraint untrue of it, and at times a second.
+    let all: Vec<usize> = (0..sheet.lines.len()).collect();
+    let few = [rng.below(all.len()), rng.below(all.len())];
+    for &at in if rng.percent(10) { &all[..] } else { &few } {
+        let kind = 1 + rng.below(12) as u8;
+        let Some(mut draft) = generate::untrue_at(rng, drawn, at, kind) else { continue };
+        if rng.percent(30) {
+            let other = rng.below(all.len());
+            let again = Drawn { draft: draft.clone(), plan: plan.clone() };
+            draft = generate::untrue_at(rng, &again, other, kind).unwrap_or(draft);
+        }
+        compare_check(&draft.bytes(), &plan.bytes(), rng, counts);
     }
 }
 
-fn compare_check(problem: &[u8], setting: &[u8], rng: &mut Rng, counts: &mut Counts) {
+fn malformed(problem: &[u8], plan: &Plan, rng: &mut Rng, counts: &mut Counts) {
+    let way = rng.below(generate::WAYS);
+    let (setting, done) = generate::malform(rng, plan, way);
+    let answered = compare_check(problem, &setting, rng, counts);
+    if done && answered == answer::refused(14) {
+        counts.coverage.see_number("assignments refused by 14, made malformed in way", way as u64);
+    }
+}
+
+fn compare_check(problem: &[u8], setting: &[u8], rng: &mut Rng, counts: &mut Counts) -> u64 {
     let mine = check(problem, setting);
     let of_library = ffi::check(problem, setting, rng.next());
     if of_library != Ok(mine) {
@@ -172,13 +208,33 @@ fn compare_check(problem: &[u8], setting: &[u8], rng: &mut Rng, counts: &mut Cou
         }
         exit(1);
     }
-    counts.checks_compared += 1;
+    counts.checks += 1;
+    let number = answer::number(mine);
+    let coverage = &mut counts.coverage;
+    let Ok(sheet) = Sheet::read(problem) else {
+        coverage.see_number("checks refused by", number);
+        return mine;
+    };
+    if let Some(setting) = Setting::read(&sheet, setting) {
+        let values = || setting.values.iter().chain(setting.sets.iter().flatten());
+        coverage.see_if("assignments", "HOLDS", mine == answer::HOLDS);
+        coverage.see_if("assignments", "FAILS", mine != answer::HOLDS);
+        coverage.see_if("assignments", "with -32,768", values().any(|&v| v == -32_768));
+        coverage.see_if("assignments", "with 32,767", values().any(|&v| v == 32_767));
+        coverage.see_if("assignments", "with a set of 255", setting.sets.iter().any(|set| set.len() == 255));
+    }
+    if answer::verdict(mine) == answer::FAILS {
+        coverage.see_number("assignments that fail first at constraint", number);
+        let kind = kinds(problem, &sheet)[number as usize];
+        coverage.see_number("assignments that fail first at kind", kind);
+    }
+    mine
 }
 
 /// Very many forms: names that may stand on any of the constants. The counts
 /// go past 16 bits.
 fn many_forms(rng: &mut Rng, counts: &mut Counts) {
-    for (constants, names) in [(60u8, 3u8), (16, 5), (40, 4)] {
+    for (constants, names) in [(42u8, 3u8), (16, 5)] {
         let mut draft = Draft {
             constants: (0..i16::from(constants)).map(|n| n - 5).collect(),
             names: (b'a'..b'a' + names).collect(),
@@ -188,18 +244,23 @@ fn many_forms(rng: &mut Rng, counts: &mut Counts) {
         draft.lines.extend((0..names).map(|name| vec![1, constants + name, 0]));
         let problem = draft.bytes();
         let size = 3 * usize::from(constants + names);
-        let ran = compare(&problem, 10_000, 400_000 * size, 40_000, rng, counts);
-        let need = answer::forms(ran.word) as usize * size;
+        let ran = compare(&problem, 10_000, 160_000 * size, 40_000, rng, counts);
+        let need = answer::forms(ran) as usize * size;
         counts.problems += 1;
-        compare(&problem, answer::steps(ran.word), need, 40_000, rng, counts);
+        compare(&problem, answer::steps(ran), need, 40_000, rng, counts);
         compare(&problem, 10_000, need - 1, 40_000, rng, counts);
     }
 }
 
 fn main() {
-    let mut arguments = std::env::args().skip(1).map(|text| text.parse::<u64>().expect("a number"));
-    let problems = arguments.next().unwrap_or(6000);
-    let seed = arguments.next().unwrap_or(1);
+    let mut arguments = std::env::args().skip(1);
+    let mut number = |otherwise: u64| arguments.next().map_or(otherwise, |text| text.parse().expect("a number"));
+    let (problems, seed) = (number(6000), number(1));
+    let short = match arguments.next().as_deref() {
+        None => false,
+        Some("short") => true,
+        Some(other) => panic!("{other}?"),
+    };
     let mut counts = Counts::default();
     let mut wide_forms = vec![0; 10_001 * 192];
     let mut wide_trace = vec![0; 40_000];
@@ -207,46 +268,62 @@ fn main() {
     for number in 0..problems {
         let mut rng = Rng::new(seed.wrapping_mul(1 << 32) + number);
         let rng = &mut rng;
-        let Drawn { draft, plan } = generate::draw(rng);
+        let drawn = generate::draw(rng);
+        let draft = &drawn.draft;
         let mut problem = draft.bytes();
         counts.problems += 1;
-        if number % 4 == 3 {
+        let damaged = number % 6 == 5;
+        if damaged {
             counts.damaged += 1;
-            let fault = 1 + (number / 4 % 11) as u8;
+            let fault = 1 + (number / 6 % 11) as u8;
             let other = 1 + rng.below(11) as u8;
             match rng.below(10) {
-                0..=3 => problem = generate::damage(rng, &draft, fault),
-                4 | 5 => problem = generate::damage_twice(rng, &draft, [fault, other]),
-                6 | 7 => problem = generate::damage_line(rng, &draft),
+                0..=3 => problem = generate::damage(rng, draft, fault),
+                4 | 5 => problem = generate::damage_twice(rng, draft, [fault, other]),
+                6 | 7 => problem = generate::damage_line(rng, draft),
                 8 => {
-                    problem = generate::damage(rng, &draft, fault);
+                    problem = generate::damage(rng, draft, fault);
                     generate::scratch(rng, &mut problem);
                 }
                 _ => generate::scratch(rng, &mut problem),
             }
+            if rng.percent(3) {
+                problem.clear();
+            }
         }
-        counts.longest = counts.longest.max(problem.len());
 
         // How many steps and what room the whole run takes, by this solver.
         let whole = solver::run(&problem, 10_000, &mut wide_forms, &mut wide_trace);
         let steps = answer::steps(whole);
         let Ok(sheet) = Sheet::read(&problem) else {
             // Refused: budgets and buffers of all sorts change nothing.
+            let coverage = &mut counts.coverage;
+            coverage.see_if("refused problems of", "0 bytes", problem.is_empty());
+            coverage.see_if("refused problems of", "4,097 bytes", problem.len() == MAX_BYTES + 1);
+            coverage.see_if("refused problems of", "more", problem.len() > MAX_BYTES + 1);
             let budget = *rng.pick(&[0, 1, 10_000, 10_001, u64::MAX]);
             compare(&problem, 0, 0, 0, rng, &mut counts);
             compare(&problem, 5, 64, 20, rng, &mut counts);
             let room = rng.below(500);
             let traced = rng.below(500);
             compare(&problem, budget, room, traced, rng, &mut counts);
-            if rng.percent(30) {
-                compare_check(&problem, &plan.bytes(), rng, &mut counts);
-            }
+            compare_check(&problem, &drawn.plan.bytes(), rng, &mut counts);
             continue;
         };
+        // About how much work a run is: steps, each a search over the problem.
+        let work = |steps: u64| steps * (200 + problem.len() as u64);
+        if short && work(steps) > 200_000 {
+            continue;
+        }
         counts.well_formed += 1;
-        counts.most_terms = counts.most_terms.max(sheet.terms);
+        let listed = answer::forms(whole);
+        let records = wide_trace[..4 * steps as usize].to_vec();
+        let split = records.chunks_exact(4).any(|record| is_split(record[0]));
+        counts.satisfiable += (listed > 0) as u64;
+        counts.split_problems += split as u64;
+        counts.satisfiable_split += (listed > 0 && split) as u64;
+        let ended = matches!(answer::verdict(whole), answer::FORMS | answer::FALSE);
         let size = 3 * sheet.terms;
-        let need = answer::forms(whole) as usize * size;
         let mut budgets = vec![0, 1, steps, 10_000, 10_001];
         if steps > 0 {
             budgets.push(steps - 1);
@@ -255,78 +332,107 @@ fn main() {
         if rng.percent(20) {
             budgets.push(*rng.pick(&[u64::MAX, 1 << 32, 1 << 62, (1 << 62) + 1, 20_000]));
         }
-        let mut split = false;
         for budget in budgets {
             let exact = 4 * budget.min(10_001) as usize;
-            let heavy = steps > 3000 && budget > 3000;
-            // Room for what this budget writes, where that can be told cheaply.
-            let fits = if budget >= steps { need } else { rng.below(need + 1) };
-            let mut rooms = vec![fits];
             if budget > 10_000 {
                 let room = rng.below(600);
                 compare(&problem, budget, room, exact, rng, &mut counts);
                 continue;
             }
-            if !heavy || rng.percent(30) {
-                rooms.push(fits + 3 * size + rng.below(50));
-                rooms.push(fits.saturating_sub(1));
+            // The room that this budget's records take.
+            let wanted = if budget >= steps {
+                whole
+            } else {
+                solver::run(&problem, budget, &mut wide_forms, &mut wide_trace)
+            };
+            let need = answer::forms(wanted) as usize * size;
+            let heavy = work(steps.min(budget)) > 200_000;
+            let very = work(steps.min(budget)) > 4_000_000;
+            let other = budget != steps && budget + 1 != steps;
+            if very && rng.percent(90) || heavy && other && rng.percent(80) {
+                continue;
             }
-            if !heavy || rng.percent(10) {
+            let mut rooms = vec![need];
+            if !heavy || rng.percent(15) {
+                rooms.push(need + 3 * size + rng.below(50));
+                rooms.push(need.saturating_sub(1));
+            }
+            if !heavy || rng.percent(5) {
                 rooms.push(0);
                 rooms.push(rng.below(need + 2));
             }
             for room in rooms {
                 let traced = exact + rng.below(2) * rng.below(60);
                 let ran = compare(&problem, budget, room, traced, rng, &mut counts);
-                for record in ran.trace.chunks_exact(4) {
-                    counts.rules[record[0] as usize] += 1;
-                    split |= is_split(record[0]);
-                }
                 // (One split can give 64 forms, so even the wide buffer may
                 // have been too small.)
-                let ended = answer::verdict(whole) != answer::NO_ROOM;
-                if ended && budget >= steps && room >= need && budget <= 10_000 && ran.word != whole {
+                if ended && room >= need && ran != wanted {
                     println!("FAULT of the separate solver: {}", hex(&problem));
                     exit(1);
                 }
+                let mut with = |name: &str, seen: bool| counts.coverage.see_if("runs with", name, seen);
+                if need > 0 {
+                    with("form buffer of 0 bytes", room == 0);
+                    with("form buffer exact", room == need);
+                    with("form buffer one byte short", room + 1 == need);
+                }
+                if ended && steps > 0 && room >= need {
+                    with("budget one less than needed", budget + 1 == steps);
+                    with("budget as needed", budget == steps);
+                }
             }
             if exact > 0 && rng.percent(40) {
-                compare(&problem, budget, fits, exact - 1, rng, &mut counts);
+                compare(&problem, budget, need, exact - 1, rng, &mut counts);
             }
         }
-        counts.split_problems += split as u64;
-        if answer::forms(whole) > 0 {
-            counts.satisfiable += 1;
-            counts.satisfiable_split += split as u64;
-        }
-        judge(&problem, &plan, whole, &wide_forms, rng, &mut counts);
-        if answer::verdict(whole) == answer::FALSE && check(&problem, &plan.bytes()) == answer::HOLDS {
+        solver::run(&problem, 10_000, &mut wide_forms, &mut wide_trace);
+        judge(&problem, &drawn, whole, &wide_forms, rng, &mut counts);
+        if answer::verdict(whole) == answer::FALSE && check(&problem, &drawn.plan.bytes()) == answer::HOLDS {
             println!("FAULT in meaning: FALSE, but a setting holds: {}", hex(&problem));
             exit(1);
         }
+        counts.coverage.problem(&problem, &sheet);
+        counts.coverage.steps(&problem, &sheet, &records, listed > 0);
+
+        // The same problem with faults at its end, or two anywhere.
+        for _ in 0..3 {
+            let faults = [1 + rng.below(11) as u8, 1 + rng.below(11) as u8];
+            let bytes = if rng.percent(70) {
+                generate::damage_line(rng, draft)
+            } else {
+                generate::damage_twice(rng, draft, faults)
+            };
+            let (budget, room) = (rng.below(30), rng.below(100));
+            compare(&bytes, budget as u64, room, 4 * budget, rng, &mut counts);
+            compare_check(&bytes, &drawn.plan.bytes(), rng, &mut counts);
+        }
     }
 
-    many_forms(&mut Rng::new(seed), &mut counts);
-
+    if !short {
+        many_forms(&mut Rng::new(seed), &mut counts);
+    }
     println!("seed {seed}: {} problems, {} of them meant to be damaged", counts.problems, counts.damaged);
     println!(
-        "well formed: {}; with a form: {}; reaching a split: {}; both: {}; longest {} bytes; most terms {}",
-        counts.well_formed, counts.satisfiable, counts.split_problems, counts.satisfiable_split, counts.longest, counts.most_terms
+        "well formed: {}; satisfiable: {}; reaching a split: {}; both: {}",
+        counts.well_formed, counts.satisfiable, counts.split_problems, counts.satisfiable_split
     );
-    println!("runs compared: {}; reaching a split: {}", counts.runs, counts.split_runs);
-    for verdict in 0..=4 {
-        println!("  {:8} {}", answer::NAMES[verdict], counts.verdicts[verdict]);
-    }
-    println!("  ended other than SPENT with steps equal to the budget: {}", counts.ended_steps_equal_budget);
-    println!("  most steps {}, most forms {}", counts.most_steps, counts.most_forms);
-    for number in 1..=13 {
-        println!("  refusal {number:2}: {}", counts.refusals[number]);
-    }
-    let rules: Vec<String> = (1..=20).map(|rule| format!("{rule}:{}", counts.rules[rule])).collect();
-    println!("  steps by rule {}", rules.join(" "));
     println!(
-        "settings (separate hand check): refused {}, HOLDS {}, FAILS {}; compared with the library: {}",
-        counts.settings[0], counts.settings[5], counts.settings[6], counts.checks_compared
+        "runs compared: {}, {} of them with a split, most steps {}, most forms {}; checks compared: {}",
+        counts.runs, counts.split_runs, counts.most_steps, counts.most_forms, counts.checks
     );
+    if !short {
+        let whole = counts.coverage.report();
+        let half = 2 * counts.satisfiable_split >= counts.well_formed;
+        if !half {
+            println!("NOT REACHED: half of the well formed problems satisfiable and with a split");
+        }
+        let many = counts.runs >= 20_000;
+        if !many {
+            println!("NOT REACHED: 20,000 runs");
+        }
+        if !whole || !half || !many {
+            exit(1);
+        }
+    }
     println!("no difference");
 }
