@@ -58,11 +58,24 @@ module _ (k : ℕ) (b : Branch) (g : Good k b) (lo hi : ℕ) (l : lo < hi) (r : 
   unfolding torn merge
   torn-both = rw (getD-set-same (b .insides) lo bothIn 0 (omega (arith, g .sized-in)), getD-set-same (b .outsides) lo bothOut 0 (omega (arith, g .sized-out)))
 
-  pub two-constants : hi < k → answer b (conflictIf true after) ≡ answer b (mergeRoots (termsFrom 0 k) (held b) (term lo) (term hi))
+  two-constants : hi < k → answer b (conflictIf true after) ≡ answer b (mergeRoots (termsFrom 0 k) (held b) (term lo) (term hi))
   two-constants q = rw (both-low 64 k (held b) g lo hi l ∙ lt-ltb hi k q)
 
-  pub no-two-constants : k ≤ hi → answer b (conflictIf (not (eqb (bitAnd bothIn bothOut) 0)) after) ≡ answer b (mergeRoots (termsFrom 0 k) (held b) (term lo) (term hi))
+  no-two-constants : k ≤ hi → answer b (conflictIf (not (eqb (bitAnd bothIn bothOut) 0)) after) ≡ answer b (mergeRoots (termsFrom 0 k) (held b) (term lo) (term hi))
   no-two-constants q = rw (both-low 64 k (held b) g lo hi l ∙ le-ltb hi k q, torn-both, sym merged)
+
+  -- as the code answers
+  pub constants-conflict : hi < k → _≡_ {A = Asserted} (record { branch = b; conflict = true }) (answer b (mergeRoots (termsFrom 0 k) (held b) (term lo) (term hi)))
+  unfolding answer
+  constants-conflict q = two-constants q
+
+  pub masks-conflict : k ≤ hi → ¬ (bitAnd bothIn bothOut ≡ 0) → _≡_ {A = Asserted} (record { branch = b; conflict = true }) (answer b (mergeRoots (termsFrom 0 k) (held b) (term lo) (term hi)))
+  unfolding answer
+  masks-conflict q n = rw (ne-eqb (bitAnd bothIn bothOut) 0 n) at (no-two-constants q)
+
+  pub roots-merge : k ≤ hi → bitAnd bothIn bothOut ≡ 0 → _≡_ {A = Asserted} (record { branch = record { parents = after .parents; insides = after .insides; outsides = after .outsides }; conflict = false }) (answer b (mergeRoots (termsFrom 0 k) (held b) (term lo) (term hi)))
+  unfolding answer
+  roots-merge q n = rw (eq-eqb (bitAnd bothIn bothOut) 0 n) at (no-two-constants q)
 
 -- h is the root of t, j that of u
 module _ (k : List Term) (b : Branch) (t u h j : ℕ) (e : h ≡ rootAt (held b) t) (f : j ≡ rootAt (held b) u) where

@@ -5,3 +5,4 @@ pub mod Answers
 pub mod Laws
 pub mod Restricting
 pub mod Recording
+pub mod Pairs

@@ -2,12 +2,12 @@
 use terms::SetVar;
 use terms::Term;
 ghost use mathlib.Core.Path.{_≡_};
-ghost use mathlib.Core.List.{[], _++_};
+ghost use mathlib.Core.List.{[], _∷_, _++_};
 ghost use Prim.Native.Nat.{_*_, _-_, _≤_, _<_};
 ghost use lib.ListN.{length, replicate};
 ghost use Rattle.calculus.specs.Lists.{bit};
 ghost use Rattle.calculus.specs.Terms.{term, setVar, termsFrom};
-ghost use Rattle.calculus.specs.Branch.{start, rootAt, In, Out, Same, conflictIf, mergeRoots, assert};
+ghost use Rattle.calculus.specs.Branch.{start, rootAt, In, Out, Same, conflictIf, mergeRoots, assert, assertAll};
 ghost use Rattle.calculus.specs.Forms.{recordOf};
 ghost use Rattle.calculus.specs.Invariants.{Falls};
 ghost use Rattle.branch.specs.Held.{held, rootOf, answer, Good};
@@ -37,28 +37,25 @@ pub fn root_at(parents: &[u8], t: usize) -> usize
     root_at(parents, p)
 }
 
+// The root of t's class, without a walk where that is t or its parent.
+pub fn find(parents: &[u8], t: usize) -> usize
+    requires { ⌜ (t < length (now parents)) × Falls (now parents) ⌝ }
+    ensures { λ r. ⌜ r ≡ rootOf (now (parents .entry)) t ⌝ }
+{
+    let near = parents[t] as usize;
+    let next = parents[near] as usize;
+    if next == near {
+        return near;
+    }
+    root_at(parents, next)
+}
+
 // Set number k is in the mask.
 pub fn has(mask: u8, k: u8) -> bool
     requires { ⌜ k < 8 ⌝ }
     ensures { λ r. ⌜ r ≡ bit mask k ⌝ }
 {
     (mask >> k) % 2 == 1
-}
-
-// On conflict the branch is as it was.
-fn answered(before: Branch, after: Branch, conflict: bool) -> Asserted
-    ensures { λ r. ⌜ r ≡ answer before (conflictIf conflict (held after)) ⌝ }
-{
-    if conflict {
-        return Asserted {
-            branch: before,
-            conflict: true,
-        };
-    }
-    Asserted {
-        branch: after,
-        conflict: false,
-    }
 }
 
 impl Branch {
@@ -85,7 +82,7 @@ impl Branch {
     {
         let parents = self.parents;
         let i = t.0 as usize;
-        let h = root_at(&parents, i) as u8;
+        let h = find(&parents, i) as u8;
         Term(h)
     }
 
@@ -99,8 +96,16 @@ impl Branch {
         let k = a.0;
         let mut next = self;
         next.insides[i] = next.insides[i] | (1 << k);
-        let conflict = has(next.outsides[i], k);
-        answered(self, next, conflict)
+        if has(next.outsides[i], k) {
+            return Asserted {
+                branch: self,
+                conflict: true,
+            };
+        }
+        Asserted {
+            branch: next,
+            conflict: false,
+        }
     }
 
     // Asserts that t is out of a.
@@ -113,8 +118,76 @@ impl Branch {
         let k = a.0;
         let mut next = self;
         next.outsides[i] = next.outsides[i] | (1 << k);
-        let conflict = has(next.insides[i], k);
-        answered(self, next, conflict)
+        if has(next.insides[i], k) {
+            return Asserted {
+                branch: self,
+                conflict: true,
+            };
+        }
+        Asserted {
+            branch: next,
+            conflict: false,
+        }
+    }
+
+    // Asserts that t is in x, and then that it is out of y.
+    pub fn assert_in_out(self, t: Term, x: SetVar, y: SetVar) -> Asserted
+        requires { ⌜ (t .0 < 64) × (x .0 < 8) × (y .0 < 8) × Falls (self .parents) ⌝ }
+        ensures { λ r. ⌜ r ≡ answer self (assertAll [] (held self) (In (term (t .0)) (setVar (x .0)) ∷ Out (term (t .0)) (setVar (y .0)) ∷ [])) ⌝ }
+    {
+        let h = self.root(t);
+        let i = h.0 as usize;
+        let f = x.0;
+        let g = y.0;
+        let mut next = self;
+        next.insides[i] = next.insides[i] | (1 << f);
+        if has(next.outsides[i], f) {
+            return Asserted {
+                branch: self,
+                conflict: true,
+            };
+        }
+        next.outsides[i] = next.outsides[i] | (1 << g);
+        if has(next.insides[i], g) {
+            return Asserted {
+                branch: self,
+                conflict: true,
+            };
+        }
+        Asserted {
+            branch: next,
+            conflict: false,
+        }
+    }
+
+    // Asserts that t is out of x, and then that it is in y.
+    pub fn assert_out_in(self, t: Term, x: SetVar, y: SetVar) -> Asserted
+        requires { ⌜ (t .0 < 64) × (x .0 < 8) × (y .0 < 8) × Falls (self .parents) ⌝ }
+        ensures { λ r. ⌜ r ≡ answer self (assertAll [] (held self) (Out (term (t .0)) (setVar (x .0)) ∷ In (term (t .0)) (setVar (y .0)) ∷ [])) ⌝ }
+    {
+        let h = self.root(t);
+        let i = h.0 as usize;
+        let f = x.0;
+        let g = y.0;
+        let mut next = self;
+        next.outsides[i] = next.outsides[i] | (1 << f);
+        if has(next.insides[i], f) {
+            return Asserted {
+                branch: self,
+                conflict: true,
+            };
+        }
+        next.insides[i] = next.insides[i] | (1 << g);
+        if has(next.outsides[i], g) {
+            return Asserted {
+                branch: self,
+                conflict: true,
+            };
+        }
+        Asserted {
+            branch: next,
+            conflict: false,
+        }
     }
 
     // The class of root hi goes into that of root lo, and what is known of both is known of it.
@@ -133,9 +206,21 @@ impl Branch {
         next.insides[i] = inside;
         next.outsides[i] = outside;
         if hi.0 < constants {
-            return answered(self, next, true);
+            return Asserted {
+                branch: self,
+                conflict: true,
+            };
         }
-        answered(self, next, inside & outside != 0)
+        if inside & outside != 0 {
+            return Asserted {
+                branch: self,
+                conflict: true,
+            };
+        }
+        Asserted {
+            branch: next,
+            conflict: false,
+        }
     }
 
     // Asserts that t and u are one class; the constants are the lowest terms.
@@ -163,13 +248,13 @@ impl Branch {
         ensures { λ r. ⌜ r ≡ recordOf terms (held self) ++ replicate (192 - 3 * terms) 0 ⌝ }
     {
         let mut bytes = [0u8; 192];
+        let parents = self.parents;
         let inside = self.insides;
         let outside = self.outsides;
         for t in 0..terms {
-            let h = self.root(Term(t));
-            let i = h.0 as usize;
+            let i = find(&parents, t as usize);
             let at = 3 * (t as usize);
-            bytes[at] = h.0;
+            bytes[at] = i as u8;
             bytes[at + 1] = inside[i];
             bytes[at + 2] = outside[i];
         }

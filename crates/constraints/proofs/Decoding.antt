@@ -1,6 +1,6 @@
 -- The laws of a constraint that is decoded, and of its entries. Assumes nothing.
 use mathlib.Core.Path.{_≡_, refl, sym, ap, ap₂, _∙_, subst}
-use mathlib.Core.Logic.{_≢_}
+use mathlib.Core.Logic.{_≢_, _⊎_, inl, inr}
 use mathlib.Core.List.{List, [], _∷_, _++_, map}
 use Prim.Native.Nat.{ℕ, zero, suc, _+_, _-_, _<_, _≤_}
 use native.Mathlib.Omega.{arith}
@@ -25,8 +25,8 @@ use Rattle.terms.specs.declared.Term as terms
 use Rattle.terms.specs.declared.SetVar as sets
 use Rattle.questions.proofs.Constants.{AllBytes}
 use Rattle.problem.specs.declared.Table.{Table}
-use Rattle.problem.specs.Table.{problemTable, Opened, constraintsOf, noConstraint, constraintOf, kindOf, listed}
-use Rattle.problem.proofs.Access.{Read, opened, Placed, placed, kind-read, list-count, witness-read, witness-is}
+use Rattle.problem.specs.Table.{problemTable, Opened, Stands, constraintsOf, noConstraint, constraintOf, kindOf, listed, witnessOf}
+use Rattle.problem.proofs.Access.{Read, opened, Placed, placed, place-of, kind-read, list-count, witness-read, witness-is}
 use Rattle.constraints.specs.declared.Constraint.{Constraint}
 use Rattle.constraints.specs.declared.Constraint.the-variants.{Member, Nonmember, Same, Different, Related, Negated, Exactly, Interval}
 use Rattle.places.specs.Places.{entriesOf}
@@ -142,23 +142,33 @@ no-entries (Negated k A B C w) a b es = (refl, refl)
 no-entries (Exactly A) a b es = absurd (miss (0 ∷ 1 ∷ 2 ∷ 3 ∷ 4 ∷ 5 ∷ 7 ∷ []) 6 tt a)
 no-entries (Interval A t u) a b es = absurd (miss (0 ∷ 1 ∷ 2 ∷ 3 ∷ 4 ∷ 5 ∷ 6 ∷ []) 7 tt b)
 
-module _ (bs : List ℕ) (tab : Table) (i : ℕ) (o : Opened bs tab) (l : i < tab .constraints) where
-  abbrev at : ℕ
-  at = getD (tab .offsets) i 0
+-- where the table says that it stands, and what it says of its witness
+pub stands-there : (bs : List ℕ) (tab : Table) (i : ℕ) → Opened bs tab → i < tab .constraints → (i < 48) × Stands bs i (getD (tab .offsets) i 0) × (term (getD (tab .witnesses) i 0) ≡ witnessOf bs i)
+stands-there bs tab i o l =
+    let s = placed bs tab i o l .small in
+    (s, record { tab = tab; opened = o; there = l; offset = refl }, witness-read bs tab i o s)
 
+module _ (bs : List ℕ) (i at : ℕ) (st : Stands bs i at) where
   abbrev this : calculus.Constraint
   this = constraintOf bs i
 
-  place : Placed bs tab i
-  place = placed bs tab i o l
+  place : Placed bs (st .tab) i
+  place = place-of bs i at st
+
+  here : drop at bs ≡ encodeConstraint this ++ place .rest
+  here = ap (λ (x : ℕ). drop x bs) (st .offset) ∙ place .here
+
+  -- the kind byte is its kind
+  pub kind-here : getD bs at 0 ≡ kindOf this
+  kind-here = ap (λ (x : ℕ). getD bs x 0) (st .offset) ∙ kind-read bs (st .tab) i place
 
   -- its bytes are part of the problem's
   here-length : length bs - at ≡ length (encodeConstraint this) + length (place .rest)
-  here-length = sym (length-drop at bs) ∙ ap length (place .here) ∙ length-append (encodeConstraint this) (place .rest)
+  here-length = sym (length-drop at bs) ∙ ap length here ∙ length-append (encodeConstraint this) (place .rest)
 
   -- its kind byte is 1 to 12
   pub kind-range : (1 ≤ getD bs at 0) × (getD bs at 0 ≤ 12)
-  kind-range = let k = kind-sizes this in omega (arith, k .0, k .1, kind-read bs tab i place)
+  kind-range = let k = kind-sizes this in omega (arith, k .0, k .1, kind-here)
 
   -- two operands are there
   pub two-operands : (i < 48) × (at + 2 < length bs) × (length bs ≤ 4096)
@@ -167,28 +177,31 @@ module _ (bs : List ℕ) (tab : Table) (i : ℕ) (o : Opened bs tab) (l : i < ta
   -- a third is there for kinds 7, 10 and 12
   pub third-operand : 7 ≤ getD bs at 0 → getD bs at 0 ≢ 8 → getD bs at 0 ≢ 9 → getD bs at 0 ≢ 11 → at + 3 < length bs
   third-operand a b c d =
-      let e = kind-read bs tab i place in
+      let e = kind-here in
       let n : 4 ≤ length (encodeConstraint this) = kind-sizes this .3 (omega arith) (λ q. b (e ∙ q)) (λ q. c (e ∙ q)) (λ q. d (e ∙ q)) in
       omega (arith, here-length)
 
+  pub third-there : (k : ℕ) → (k ≡ 7) ⊎ (k ≡ 10) → getD bs at 0 ≡ k → at + 3 < length bs
+  third-there k (inl z) e = third-operand (omega arith) (omega arith) (omega arith) (omega arith)
+  third-there k (inr z) e = third-operand (omega arith) (omega arith) (omega arith) (omega arith)
+
   -- constraint i is that of its kind over the bytes that follow its kind byte
-  pub reads-as : (k : ℕ) → getD bs at 0 ≡ k → this ≡ ofKind k (getD bs (at + 1) 0) (getD bs (at + 2) 0) (getD bs (at + 3) 0) (getD (tab .witnesses) i 0) (listed this)
-  reads-as k e =
-      let r = opened bs tab o in
+  pub reads-as : (w : ℕ) → term w ≡ witnessOf bs i → (k : ℕ) → getD bs at 0 ≡ k → this ≡ ofKind k (getD bs (at + 1) 0) (getD bs (at + 2) 0) (getD bs (at + 3) 0) w (listed this)
+  reads-as w u k e =
+      let r = opened bs (st .tab) (st .opened) in
       let prob : Problem = r .prob in
-      let a = of-problem bs tab i l r (Refers (prob .constants) (nameable prob) (setCount prob)) (read-valid bs prob (r .reads) .refers) in
-      let w : ℕ = getD (tab .witnesses) i 0 in
-      let q : kindOf this ≡ k = sym (kind-read bs tab i place) ∙ e in
-      let h = by-kind (prob .constants) (nameable prob) (setCount prob) w (place .rest) this a (λ k A B C u z. witness-read bs tab i o (place .small) ∙ witness-is bs tab i o k A B C u z) in
-      let byte : (j : ℕ) → getD (encodeConstraint this ++ place .rest) j 0 ≡ getD bs (at + j) 0 = λ j. ap (λ (xs : List ℕ). getD xs j 0) (sym (place .here)) ∙ getD-drop at bs j 0 in
+      let a = of-problem bs (st .tab) i (st .there) r (Refers (prob .constants) (nameable prob) (setCount prob)) (read-valid bs prob (r .reads) .refers) in
+      let q : kindOf this ≡ k = sym kind-here ∙ e in
+      let h = by-kind (prob .constants) (nameable prob) (setCount prob) w (place .rest) this a (λ k A B C v z. u ∙ witness-is bs (st .tab) i (st .opened) k A B C v z) in
+      let byte : (j : ℕ) → getD (encodeConstraint this ++ place .rest) j 0 ≡ getD bs (at + j) 0 = λ j. ap (λ (xs : List ℕ). getD xs j 0) (sym here) ∙ getD-drop at bs j 0 in
       rw (q, byte 1, byte 2, byte 3) at h
 
   -- its terms are below 64 and its sets below 8
-  in-range : ConstraintIn 64 8 this
+  pub in-range : ConstraintIn 64 8 this
   in-range =
-      let r = opened bs tab o in
+      let r = opened bs (st .tab) (st .opened) in
       let v = read-valid bs (r .prob) (r .reads) in
-      wider (termCount (r .prob)) (setCount (r .prob)) (v .few-terms) (v .few-sets) this (of-problem bs tab i l r (ConstraintIn (termCount (r .prob)) (setCount (r .prob))) (constraints-in (r .prob) v))
+      wider (termCount (r .prob)) (setCount (r .prob)) (v .few-terms) (v .few-sets) this (of-problem bs (st .tab) i (st .there) r (ConstraintIn (termCount (r .prob)) (setCount (r .prob))) (constraints-in (r .prob) v))
 
   -- ---- its entries
 
@@ -203,7 +216,7 @@ module _ (bs : List ℕ) (tab : Table) (i : ℕ) (o : Opened bs tab) (l : i < ta
 
       pub list-unpacked : AllBytes bs → (es : List ℕ) → map term es ≡ listed this → Unpacked bs i es r
       list-unpacked known es h =
-          let n : length es ≡ getD bs (at + 2) 0 = sym (length-map es term) ∙ ap length h ∙ sym (list-count bs tab i place list-kind) in
+          let n : length es ≡ getD bs (at + 2) 0 = sym (length-map es term) ∙ ap length h ∙ sym (list-count bs (st .tab) i place list-kind) ∙ ap (λ (x : ℕ). getD bs (x + 2) 0) (sym (st .offset)) in
           let q : this ≡ calculus.exactly (setVar (A .0)) (map term es) = is ∙ ap (decoded (listed this)) e ∙ ap (calculus.exactly (setVar (A .0))) (sym h) in
           unpacked es r (q ∙ ap (decoded (map term es)) (sym e)) (ap (λ (x : Constraint). entriesOf (decoded (map term es) x)) e) (omega (arith, known (at + 2)))
 

@@ -4,10 +4,12 @@ use problem::entries;
 use terms::SetVar;
 use terms::Term;
 ghost use mathlib.Core.Path.{_≡_};
-ghost use Prim.Native.Nat.{_<_};
+ghost use Prim.Native.Nat.{_+_, _<_, _≤_};
+ghost use lib.ListN.{length, getD};
 ghost use Rattle.calculus.specs.Lists.{upFrom};
-ghost use Rattle.problem.specs.Table.{Opened, constraintOf, listed};
-ghost use Rattle.constraints.specs.Decoded.{decoded, Unpacked};
+ghost use Rattle.calculus.specs.Terms.{term};
+ghost use Rattle.problem.specs.Table.{Opened, Stands, constraintOf, listed, witnessOf};
+ghost use Rattle.constraints.specs.Decoded.{decoded, thirdOf, Unpacked};
 
 // The relations between sets, and those that a constraint can deny.
 pub enum Relation {
@@ -34,12 +36,11 @@ pub enum Constraint {
     Interval(SetVar, Term, Term),
 }
 
-// Constraint i.
-pub fn decode(problem: &[u8], tab: Table, i: usize) -> Constraint
-    requires { ⌜ Opened (now problem) tab × (i < tab .constraints) ⌝ }
+// Constraint i, which stands at an offset and whose witness is w.
+pub fn decode_at(problem: &[u8], i: usize, at: usize, w: u8) -> Constraint
+    requires { ⌜ Stands (now problem) i at × (term w ≡ witnessOf (now problem) i) ⌝ }
     ensures { λ r. ⌜ constraintOf (now (problem .entry)) i ≡ decoded (listed (constraintOf (now (problem .entry)) i)) r ⌝ }
 {
-    let at = tab.offsets[i] as usize;
     let kind = problem[at];
     let p = problem[at + 1];
     let q = problem[at + 2];
@@ -59,7 +60,6 @@ pub fn decode(problem: &[u8], tab: Table, i: usize) -> Constraint
         return Constraint::Related(Relation::Equal, SetVar(p), SetVar(q), SetVar(p));
     }
     if kind == 6 {
-        let w = tab.witnesses[i];
         return Constraint::Negated(Negation::Unequal, SetVar(p), SetVar(q), SetVar(p), Term(w));
     }
     if kind == 8 {
@@ -81,19 +81,45 @@ pub fn decode(problem: &[u8], tab: Table, i: usize) -> Constraint
     Constraint::Interval(SetVar(p), Term(q), Term(s))
 }
 
-// The entries of constraint i: the part of the problem that has a list's, the part of the numbers that has an interval's, and none of any other.
-pub fn list<'a>(
+// The third operand of a relation of kind 7 or 10, which stands at an offset; of any other constraint the first.
+pub fn third(problem: &[u8], at: usize) -> u8
+    requires { ⌜ (at + 1 < length (now problem)) × (length (now problem) ≤ 4096) × (getD (now problem) at 0 ≡ 7 → at + 3 < length (now problem)) × (getD (now problem) at 0 ≡ 10 → at + 3 < length (now problem)) ⌝ }
+    ensures { λ r. ⌜ r ≡ thirdOf (getD (now (problem .entry)) at 0) (getD (now (problem .entry)) (at + 1) 0) (getD (now (problem .entry)) (at + 3) 0) ⌝ }
+{
+    let k = problem[at];
+    if k == 7 {
+        return problem[at + 3];
+    }
+    if k == 10 {
+        return problem[at + 3];
+    }
+    problem[at + 1]
+}
+
+// Constraint i.
+pub fn decode(problem: &[u8], tab: Table, i: usize) -> Constraint
+    requires { ⌜ Opened (now problem) tab × (i < tab .constraints) ⌝ }
+    ensures { λ r. ⌜ constraintOf (now (problem .entry)) i ≡ decoded (listed (constraintOf (now (problem .entry)) i)) r ⌝ }
+{
+    let offsets = tab.offsets;
+    let witnesses = tab.witnesses;
+    let w = witnesses[i];
+    decode_at(problem, i, offsets[i] as usize, w)
+}
+
+// The entries of constraint i, which stands at an offset: the part of the problem that has a list's, the part of the numbers that has an interval's, and none of any other.
+pub fn list_at<'a>(
     problem: &'a [u8],
     numbers: &'a [u8],
-    tab: Table,
     i: usize,
+    at: usize,
     l: Constraint,
 ) -> &'a [u8]
-    requires { ⌜ Opened (now problem) tab × (i < tab .constraints) × (now numbers ≡ upFrom 0 64) × (constraintOf (now problem) i ≡ decoded (listed (constraintOf (now problem) i)) l) ⌝ }
+    requires { ⌜ Stands (now problem) i at × (now numbers ≡ upFrom 0 64) × (constraintOf (now problem) i ≡ decoded (listed (constraintOf (now problem) i)) l) ⌝ }
     ensures { λ r. ⌜ Unpacked (now (problem .entry)) i (now r) l ⌝ }
 {
     if let Constraint::Exactly(_) = l {
-        return entries(problem, tab, i);
+        return entries(problem, i, at);
     }
     if let Constraint::Interval(_, first, last) = l {
         let a = first.0 as usize;
@@ -105,4 +131,19 @@ pub fn list<'a>(
         return &numbers[a..e];
     }
     &numbers[0..0]
+}
+
+// The entries of constraint i.
+pub fn list<'a>(
+    problem: &'a [u8],
+    numbers: &'a [u8],
+    tab: Table,
+    i: usize,
+    l: Constraint,
+) -> &'a [u8]
+    requires { ⌜ Opened (now problem) tab × (i < tab .constraints) × (now numbers ≡ upFrom 0 64) × (constraintOf (now problem) i ≡ decoded (listed (constraintOf (now problem) i)) l) ⌝ }
+    ensures { λ r. ⌜ Unpacked (now (problem .entry)) i (now r) l ⌝ }
+{
+    let offsets = tab.offsets;
+    list_at(problem, numbers, i, offsets[i] as usize, l)
 }

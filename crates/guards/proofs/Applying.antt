@@ -1,7 +1,6 @@
 -- What the code finds at a place is what the guard says there.
 use mathlib.Core.Path.{_≡_, refl, sym, ap, _∙_}
 use mathlib.Core.Bool.{Bool, true, false, _&&_, not}
-use mathlib.Core.Logic.{inl, inr}
 use mathlib.Core.List.{List, [], _∷_, map}
 use Prim.Native.Nat.{ℕ, _+_, _<_, _≤_}
 use native.Mathlib.Numerals.{add-one}
@@ -11,8 +10,6 @@ use lib.Seq.{drop-cons}
 use lib.Dec.{eqb}
 use lib.Bits.{bitAnd}
 use borrow.Author.Tests.{eq-eqb, ne-eqb, not-true, not-false}
-use types.Run.{OneOf}
-use denote.Enum.Declared.{tagOf}
 use Rattle.calculus.specs.Lists.{any, Each}
 use Rattle.calculus.specs.Terms.{Term, term}
 use Rattle.calculus.specs.Branch.{rootAt}
@@ -20,15 +17,6 @@ use Rattle.calculus.proofs.Bools.{and-i}
 use Rattle.calculus.proofs.Sequences.{each-at}
 use Rattle.branch.specs.Held.{rootOf}
 use Rattle.branch.proofs.Roots.{getD-any, root-is, root-le}
-use Rattle.constraints.specs.declared.Relation.{Relation}
-use Rattle.constraints.specs.declared.Relation.the-variants.{Equal, Union, Disjoint, Subset, Intersection}
-use Rattle.constraints.proofs.Relation.{the-type as relation-type}
-use Rattle.constraints.specs.declared.Constraint.{Constraint}
-use Rattle.constraints.specs.declared.Constraint.the-variants.{Member, Nonmember, Same, Different, Related, Negated, Exactly, Interval}
-use Rattle.constraints.proofs.Constraint.{the-type as constraint-type}
-use Rattle.constraints.specs.Decoded.{decoded}
-use Rattle.places.specs.Places.{spanOf}
-use Rattle.terms.specs.declared.SetVar.{SetVar}
 use Rattle.guards.specs.declared.Guard.{Guard}
 use Rattle.guards.specs.Guarded.{branchOf, meets, passes, Standing}
 
@@ -133,49 +121,3 @@ module _ {n : ℕ} {parents insides outsides : List ℕ} (s : Standing n parents
           pub fit-free : j ≡ 20 → (r : Bool) → r ≡ among parents p list 0 → not r ≡ here
           unfolding rootAt
           fit-free m r e = rw (ne-eqb j 19 other, is-root, ← f, not-false t z, eq-eqb j 20 m) (ap not e)
-
--- ---- the rules of a constraint
-
-abbrev Spanned : ℕ → ℕ → Bool → Constraint → Type 0
-Spanned i j split l = (i ≡ spanOf split (decoded [] l) .0) × (j ≡ spanOf split (decoded [] l) .1)
-
--- of a relation
-pub related : {i j : ℕ} (split t : Bool) → split ≡ t → (l : Constraint) (k r : Relation) (A B C : SetVar) → l ≡ Related k A B C → k ≡ r → Spanned i j t (Related r A B C) → Spanned i j split l
-related split t e l k r A B C q z s = rw (e, q, z) s
-
--- of the relations union alone has a split
-pub relation-unsplit : (split : Bool) → split ≡ true → (l : Constraint) (k : Relation) (A B C : SetVar) → l ≡ Related k A B C → OneOf (0 ∷ 2 ∷ 3 ∷ 4 ∷ []) (tagOf relation-type k) → Spanned 0 0 split l
-relation-unsplit split e l k A B C q o = related split true e l k k A B C q refl (go k (other (tagOf relation-type k) o))
-  where
-    other : (n : ℕ) → OneOf (0 ∷ 2 ∷ 3 ∷ 4 ∷ []) n → ¬ (n ≡ 1)
-    other n (inl e) q = omega arith
-    other n (inr (inl e)) q = omega arith
-    other n (inr (inr (inl e))) q = omega arith
-    other n (inr (inr (inr e))) q = omega arith
-
-    go : (k : Relation) → ¬ (tagOf relation-type k ≡ 1) → Spanned 0 0 true (Related k A B C)
-    go Equal n = (refl, refl)
-    go Union n = absurd (n refl)
-    go Disjoint n = (refl, refl)
-    go Subset n = (refl, refl)
-    go Intersection n = (refl, refl)
-
--- nor has a constraint on one term or two
-pub unsplit : (split : Bool) → split ≡ true → (l : Constraint) → OneOf (0 ∷ 1 ∷ 2 ∷ 3 ∷ []) (tagOf constraint-type l) → Spanned 0 0 split l
-unsplit split e l o = rw e (go l (low (tagOf constraint-type l) o))
-  where
-    low : (n : ℕ) → OneOf (0 ∷ 1 ∷ 2 ∷ 3 ∷ []) n → n < 4
-    low n (inl e) = omega arith
-    low n (inr (inl e)) = omega arith
-    low n (inr (inr (inl e))) = omega arith
-    low n (inr (inr (inr e))) = omega arith
-
-    go : (l : Constraint) → tagOf constraint-type l < 4 → Spanned 0 0 true l
-    go (Member t A) h = (refl, refl)
-    go (Nonmember t A) h = (refl, refl)
-    go (Same t u) h = (refl, refl)
-    go (Different t u) h = (refl, refl)
-    go (Related k A B C) h = absurd (omega arith)
-    go (Negated k A B C w) h = absurd (omega arith)
-    go (Exactly A) h = absurd (omega arith)
-    go (Interval A i j) h = absurd (omega arith)

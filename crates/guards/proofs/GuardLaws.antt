@@ -11,7 +11,7 @@ use lib.Dec.{eqb}
 use borrow.Author.Tests.{eqb-true, eq-eqb, ne-eqb}
 use Rattle.calculus.specs.Lists.{upFrom, all, any, keep, first, bit}
 use Rattle.calculus.specs.Terms.{Term, SetVar, term, setVar}
-use Rattle.calculus.specs.Relations.{applies, unequal, propagation}
+use Rattle.calculus.specs.Relations.{Relation, applies, unequal, propagation}
 use Rattle.calculus.specs.Meaning.{Constraint, member, nonmember, same, different, relation, negation, exactly, interval}
 use Rattle.calculus.specs.Branch.{Branch, rootAt, root, inside, outside, In, Out, Same, known}
 use Rattle.calculus.specs.Invariants.{Falls}
@@ -187,6 +187,13 @@ early : (s e : ℕ × ℕ) (j : ℕ) → s .1 ≤ 19 → e .1 ≤ 19 → InSpan 
 early s e j k m (inl r) = omega (arith, r .1)
 early s e j k m (inr r) = omega (arith, r .1)
 
+-- the rules of a relation
+pub row-guards : (n : ℕ) (b : Branch) → Falls (b .parents) → n ≤ 64 → (k : Relation) (A B C : SetVar) (j : ℕ) → RuleOf (relation k A B C) j → Guards n b (relation k A B C) j (rowGuard n (by (2 ^ A .index) (2 ^ B .index) (2 ^ C .index)) (numbered j))
+row-guards n b fall few k A B C j r =
+    let s = row-number k A B C j r in
+    roots-guards n b fall few (relation k A B C) j (omega (arith, s .1)) refl _ _ _ _
+    (λ h e. row-applies k A B C j r n b h e ∙ rw (ne-eqb j 20 (omega (arith, s .1))) (sym (and-true _)))
+
 -- the guard of a constraint's rule j, by its kind
 module _ (n : ℕ) (b : Branch) (es : List ℕ) (j : ℕ) where
   abbrev pub guardOf : Coded → Guard
@@ -208,10 +215,7 @@ module _ (n : ℕ) (b : Branch) (es : List ℕ) (j : ℕ) where
       (out-applies b (term (t .0)) (setVar (A .0)) 2 (rootAt b (t .0)) (suc (rootAt b (t .0))))
   guards-of fall few (Equated t u) h r = unless-guards n b fall few (same (term (t .0)) (term (u .0))) j (early (3, 4) (0, 0) j (omega arith) (omega arith) r) (t .0) (h .in-range .0) refl (eqb (rootAt b (t .0)) (rootAt b (u .0))) (once (eqb (rootAt b (t .0)) (rootAt b (u .0))))
   guards-of fall few (Different t u) h r = unless-guards n b fall few (different (term (t .0)) (term (u .0))) j (early (4, 5) (0, 0) j (omega arith) (omega arith) r) (t .0) (h .in-range .0) refl (not (eqb (rootAt b (t .0)) (rootAt b (u .0)))) (and-true _ ∙ and-true _ ∙ sym (Bool·not-not (eqb (rootAt b (t .0)) (rootAt b (u .0)))))
-  guards-of fall few (Related k A B C) h r =
-      let s = row-number (relationOf k) (setVar (A .0)) (setVar (B .0)) (setVar (C .0)) j r in
-      roots-guards n b fall few (relation (relationOf k) (setVar (A .0)) (setVar (B .0)) (setVar (C .0))) j (omega (arith, s .1)) refl _ _ _ _
-      (λ h e. row-applies (relationOf k) (setVar (A .0)) (setVar (B .0)) (setVar (C .0)) j r n b h e ∙ rw (ne-eqb j 20 (omega (arith, s .1))) (sym (and-true _)))
+  guards-of fall few (Related k A B C) h r = row-guards n b fall few (relationOf k) (setVar (A .0)) (setVar (B .0)) (setVar (C .0)) j r
   guards-of fall few (Negated Unequal A B C w) h r = unless-guards n b fall few (negation unequal (setVar (A .0)) (setVar (B .0)) (setVar (C .0)) (term (w .0))) j (early (0, 0) (7, 8) j (omega arith) (omega arith) r) (w .0) (h .in-range .1) refl
       (decided i o (2 ^ A .0) (2 ^ B .0)) (rw (tests-one true i (A .0), tests-one true i (B .0), tests-one true o (A .0), tests-one true o (B .0)) (split (bit i (A .0)) (bit o (B .0)) (bit o (A .0)) (bit i (B .0))))
     where

@@ -1,21 +1,27 @@
 -- The masks by which the code tests a place.
 use mathlib.Core.Path.{_≡_}
-use mathlib.Core.Bool.{Bool, _&&_, _||_, not, cond}
+use mathlib.Core.Logic.{_⊎_}
+use mathlib.Core.Bool.{Bool, true, false, _&&_, _||_, not, cond}
 use mathlib.Core.List.{List, [], _∷_, _++_}
-use Prim.Native.Nat.{ℕ, suc, _-_, _≤_}
+use Prim.Native.Nat.{ℕ, suc, _-_, _^_, _≤_, _<_}
 use lib.ListN.{length, getD}
-use lib.Dec.{eqb}
+use lib.Dec.{eqb, ltb}
 use lib.Bits.{bitAnd, bitOr}
 use Rattle.calculus.specs.Lists.{upFrom, any, gather, first}
-use Rattle.calculus.specs.Terms.{Term, term}
+use Rattle.calculus.specs.Terms.{Term, term, setVar}
 use Rattle.calculus.specs.Relations.{Rule, propagation, equal, union, disjoint, subset, intersection, unequal, Operand, Literal, negationRow}
 use Rattle.calculus.specs.Relations as R
 use Rattle.calculus.specs.Meaning.{Constraint}
-use Rattle.calculus.specs.Branch.{Branch, rootAt}
+use Rattle.calculus.specs.Branch.{Branch, rootAt, In, Out, Same, known}
 use Rattle.calculus.specs.Invariants.{Falls}
-use Rattle.calculus.proofs.Tables.{rows}
-use Rattle.places.specs.Places.{entriesOf, firstAt}
+use Rattle.calculus.proofs.Tables.{rows, by}
+use Rattle.problem.specs.Table.{kindOf}
+use Rattle.places.specs.Places.{spanOf, entriesOf, firstAt}
 use Rattle.guards.specs.declared.Guard.{Guard}
+
+-- the rules from first up to end are the propagation rules, or the split, of each constraint of a kind
+abbrev pub Spanned : Bool → (kind first end : ℕ) → Type 0
+Spanned split kind first end = (l : Constraint) → kindOf l ≡ kind → (first ≡ spanOf split l .0) × (end ≡ spanOf split l .1)
 
 -- a branch from its three lists
 abbrev pub branchOf : List ℕ → List ℕ → List ℕ → Branch
@@ -27,11 +33,21 @@ meets g b h =
     (eqb (bitAnd (getD (b .insides) h 0) (g .inside)) (g .inside) && eqb (bitAnd (getD (b .outsides) h 0) (g .outside)) (g .outside))
     && (eqb (bitAnd (getD (b .insides) h 0) (g .notin)) 0 && eqb (bitAnd (getD (b .outsides) h 0) (g .notout)) 0)
 
+-- h is a root whose class meets the masks
+abbrev pub rootMeets : Guard → Branch → ℕ → Bool
+rootMeets g b h = eqb (getD (b .parents) h h) h && meets g b h
+
+-- k is the first number below n that passes a test, or n if none does
+pub record FirstOf (test : ℕ → Bool) (n k : ℕ) : Type 0 where
+  pub in-range : k ≤ n
+  pub passed : k < n → test k ≡ true
+  pub none-before : (p : ℕ) → p < k → test p ≡ false
+
 -- at position p: rule 19 tests the entry's root, any other rule the root p, and rule 20 that no entry is in its class
 abbrev pub passes : Guard → Branch → List Term → ℕ → ℕ → Bool
 passes g b es j p =
     cond (eqb j 19) (meets g b (rootAt b (getD es p (term 0) .index)))
-    ((eqb (getD (b .parents) p p) p && meets g b p) && not (eqb j 20 && any (λ (e : Term). eqb (rootAt b (e .index)) p) es))
+    (rootMeets g b p && not (eqb j 20 && any (λ (e : Term). eqb (rootAt b (e .index)) p) es))
 
 -- a guard tests rule j of a constraint: the first position that passes, from its beginning up to its end, is the first where the rule applies
 pub record Guards (n : ℕ) (b : Branch) (l : Constraint) (j : ℕ) (g : Guard) : Type 0 where
@@ -101,3 +117,41 @@ rowGuard n s r = below n (maskOf s (inOf (r .premises))) (maskOf s (outOf (r .pr
 -- the rows of the tables by rule number, from 5 to 18
 abbrev pub numbered : ℕ → Rule Literal
 numbered j = getD (rows equal ++ negationRow unequal ∷ rows union ++ rows disjoint ++ rows subset ++ rows intersection) (j - 5) (propagation 0 [] (R.In R.A))
+
+-- ---- constraints that have nothing to do
+
+-- of sets with masks x, y and z: some root's class meets the guard of a rule from first up to end
+abbrev pub rowsMet : Branch → (first end x y z : ℕ) → Bool
+rowsMet b first end x y z = any (λ (j : ℕ). any (rootMeets (rowGuard 64 (by x y z) (numbered j)) b) (upFrom 0 64)) (upFrom first (end - first))
+
+-- no rule from first up to end applies: what a constraint of kind 1 to 4 on p and q says is known; or (kind 6) the witness w is known in one of the sets p and q and out of the other; or, of 8 terms or more, no class meets a guard of the relation (kinds 5 and 7 to 10) of the sets p, q and s
+abbrev pub quiet : Branch → (n kind p q s w first end : ℕ) → Bool
+quiet b n kind p q s w first end =
+    getD (
+    false
+    ∷ known b (In (term p) (setVar q))
+    ∷ known b (Out (term p) (setVar q))
+    ∷ known b (Same (term p) (term q))
+    ∷ not (known b (Same (term p) (term q)))
+    ∷ not (ltb n 8 || rowsMet b first end (2 ^ p) (2 ^ q) (2 ^ s))
+    ∷ (known b (In (term w) (setVar p)) && known b (Out (term w) (setVar q)) || known b (Out (term w) (setVar p)) && known b (In (term w) (setVar q)))
+    ∷ not (ltb n 8 || rowsMet b first end (2 ^ p) (2 ^ q) (2 ^ s))
+    ∷ not (ltb n 8 || rowsMet b first end (2 ^ p) (2 ^ q) (2 ^ s))
+    ∷ not (ltb n 8 || rowsMet b first end (2 ^ p) (2 ^ q) (2 ^ s))
+    ∷ not (ltb n 8 || rowsMet b first end (2 ^ p) (2 ^ q) (2 ^ s))
+    ∷ []
+    ) kind false
+
+-- the kinds of relations
+abbrev pub RowKind : ℕ → Type 0
+RowKind kind = (kind ≡ 5) ⊎ (kind ≡ 7) ⊎ (kind ≡ 8) ⊎ (kind ≡ 9) ⊎ (kind ≡ 10)
+
+-- the operands of such a constraint are terms below 64 and sets below 8, and the rules of a relation are 5 to 18, but 7
+pub record Reaching (kind p q s w first end : ℕ) : Type 0 where
+  pub in-set : kind ≡ 1 → (p < 64) × (q < 8)
+  pub out-of-set : kind ≡ 2 → (p < 64) × (q < 8)
+  pub alike : kind ≡ 3 → (p < 64) × (q < 64)
+  pub apart : kind ≡ 4 → (p < 64) × (q < 64)
+  pub denied : kind ≡ 6 → (p < 8) × (q < 8) × (w < 64)
+  pub related : RowKind kind → (p < 8) × (q < 8) × (s < 8)
+  pub ruled : RowKind kind → (j : ℕ) → first ≤ j → j < end → (5 ≤ j) × (j ≤ 18) × ¬ (j ≡ 7)

@@ -1,23 +1,24 @@
 // A rule's test at a place, as masks.
-use branch::root_at;
+use branch::find;
+use branch::has;
 use constraints::Constraint;
-use constraints::Relation;
 use terms::SetVar;
 use terms::Term;
 ghost use mathlib.Core.Path.{_≡_};
+ghost use mathlib.Core.Bool.{cond, _&&_, _||_};
 ghost use mathlib.Core.List.{[], map};
-ghost use Prim.Native.Nat.{_≤_, _<_};
+ghost use Prim.Native.Nat.{ℕ, _≤_, _<_};
 ghost use lib.ListN.{length};
 ghost use lib.Dec.{eqb};
-ghost use Rattle.calculus.specs.Lists.{any, Each};
+ghost use Rattle.calculus.specs.Lists.{upFrom, any, Each};
 ghost use Rattle.calculus.specs.Terms.{term};
 ghost use Rattle.calculus.specs.Branch.{rootAt};
 ghost use Rattle.calculus.specs.Invariants.{Falls};
 ghost use Rattle.constraints.specs.Decoded.{decoded, Handled};
-ghost use Rattle.places.specs.Places.{spanOf, RuleOf};
+ghost use Rattle.places.specs.Places.{RuleOf};
 ghost use Rattle.calculus.proofs.Tables.{by};
 ghost use Rattle.branch.specs.Held.{rootOf};
-ghost use Rattle.guards.specs.Guarded.{branchOf, meets, passes, Standing, Guards, below, only, unless, both, decided, listGuard, numbered, rowGuard};
+ghost use Rattle.guards.specs.Guarded.{Spanned, rowsMet, quiet, Reaching, branchOf, meets, rootMeets, FirstOf, passes, Standing, Guards, below, only, unless, both, decided, listGuard, numbered, rowGuard};
 
 // Rules by number, from the first up to the end.
 pub struct Span {
@@ -35,42 +36,38 @@ pub struct Guard {
     pub notout: u8,
 }
 
-// The propagation rules of a constraint, or its split.
-pub fn rules(l: Constraint, split: bool) -> Span
-    ensures { λ r. ⌜ (r .first ≡ spanOf split (decoded [] l) .0) × (r .end ≡ spanOf split (decoded [] l) .1) ⌝ }
+// The propagation rules of a constraint of a kind, or its split.
+pub fn rules(kind: u8, split: bool) -> Span
+    ensures { λ r. ⌜ Spanned split kind (r .first) (r .end) ⌝ }
 {
     if split {
-        return match l {
-            Constraint::Related(k, _, _, _) => match k {
-                Relation::Union => Span { first: 12, end: 13 },
-                _ => Span { first: 0, end: 0 },
-            },
-            Constraint::Negated(_, _, _, _, _) => Span { first: 7, end: 8 },
-            Constraint::Exactly(_) => Span { first: 20, end: 21 },
-            Constraint::Interval(_, _, _) => Span { first: 20, end: 21 },
+        return match kind {
+            6 => Span { first: 7, end: 8 },
+            7 => Span { first: 12, end: 13 },
+            11 => Span { first: 20, end: 21 },
+            12 => Span { first: 20, end: 21 },
             _ => Span { first: 0, end: 0 },
         };
     }
-    match l {
-        Constraint::Member(_, _) => Span { first: 1, end: 2 },
-        Constraint::Nonmember(_, _) => Span { first: 2, end: 3 },
-        Constraint::Same(_, _) => Span { first: 3, end: 4 },
-        Constraint::Different(_, _) => Span { first: 4, end: 5 },
-        Constraint::Related(k, _, _, _) => match k {
-            Relation::Equal => Span { first: 5, end: 7 },
-            Relation::Union => Span { first: 8, end: 12 },
-            Relation::Disjoint => Span { first: 13, end: 15 },
-            Relation::Subset => Span { first: 15, end: 16 },
-            Relation::Intersection => Span { first: 16, end: 19 },
-        },
-        Constraint::Negated(_, _, _, _, _) => Span { first: 0, end: 0 },
-        Constraint::Exactly(_) => Span { first: 19, end: 20 },
-        Constraint::Interval(_, _, _) => Span { first: 19, end: 20 },
+    match kind {
+        1 => Span { first: 1, end: 2 },
+        2 => Span { first: 2, end: 3 },
+        3 => Span { first: 3, end: 4 },
+        4 => Span { first: 4, end: 5 },
+        5 => Span { first: 5, end: 7 },
+        7 => Span { first: 8, end: 12 },
+        8 => Span { first: 13, end: 15 },
+        9 => Span { first: 15, end: 16 },
+        10 => Span { first: 16, end: 19 },
+        11 => Span { first: 19, end: 20 },
+        12 => Span { first: 19, end: 20 },
+        // kind 6
+        _ => Span { first: 0, end: 0 },
     }
 }
 
 // Whether the class of root h meets the masks.
-pub fn fits(g: Guard, insides: &[u8], outsides: &[u8], h: usize) -> bool
+fn fits(g: Guard, insides: &[u8], outsides: &[u8], h: usize) -> bool
     requires { ⌜ (h < length (now insides)) × (h < length (now outsides)) ⌝ }
     ensures { λ r. ⌜ r ≡ meets g (branchOf [] (now (insides .entry)) (now (outsides .entry))) h ⌝ }
 {
@@ -88,14 +85,33 @@ pub fn fits(g: Guard, insides: &[u8], outsides: &[u8], h: usize) -> bool
     outside & g.notout == 0
 }
 
+// Whether both of one pair hold, or both of another.
+fn apart(a: bool, b: bool, c: bool, d: bool) -> bool
+    ensures { λ r. ⌜ r ≡ (a && b || c && d) ⌝ }
+{
+    if a {
+        if b {
+            return true;
+        }
+        if c {
+            return d;
+        }
+        return false;
+    }
+    if c {
+        return d;
+    }
+    false
+}
+
 // Whether an entry is in the class of root h.
-pub fn has_root(list: &[u8], parents: &[u8], h: usize) -> bool
+fn has_root(list: &[u8], parents: &[u8], h: usize) -> bool
     requires { ⌜ Each (λ e. e < length (now parents)) (now list) × Falls (now parents) ⌝ }
     ensures { λ r. ⌜ r ≡ any (λ e. eqb (rootAt (branchOf (now (parents .entry)) [] []) (e .index)) h) (map term (now (list .entry))) ⌝ }
 {
     for p in 0..list.len() {
         let e = list[p] as usize;
-        if root_at(parents, e) == h {
+        if find(parents, e) == h {
             return true;
         }
     }
@@ -118,7 +134,7 @@ pub fn applies(
     let h = p as usize;
     if j == 19 {
         let e = list[h] as usize;
-        let k = root_at(parents, e);
+        let k = find(parents, e);
         return fits(g, insides, outsides, k);
     }
     if parents[h] != p {
@@ -138,7 +154,7 @@ fn root(parents: &[u8], t: Term) -> u8
     requires { ⌜ (t .0 < 64) × (length (now parents) ≡ 64) × Falls (now parents) ⌝ }
     ensures { λ r. ⌜ r ≡ rootOf (now (parents .entry)) (t .0) ⌝ }
 {
-    root_at(parents, t.0 as usize) as u8
+    find(parents, t.0 as usize) as u8
 }
 
 // The positions below an end.
@@ -235,8 +251,8 @@ fn listing(len: u8, terms: u8, j: u8, x: u8) -> Guard
     below(terms, x, 0, 0, 0)
 }
 
-// The guard of rule j.
-pub fn guard_at(
+// The guard of rule j, over all positions of the rule.
+fn guard_of(
     parents: &[u8],
     insides: &[u8],
     outsides: &[u8],
@@ -272,5 +288,176 @@ pub fn guard_at(
         }
         Constraint::Exactly(a) => listing(list.len() as u8, terms, j, 1 << a.0),
         Constraint::Interval(a, _, _) => listing(list.len() as u8, terms, j, 1 << a.0),
+    }
+}
+
+// The number of root h, if its class meets the masks; otherwise 64.
+fn fitting(g: Guard, parents: &[u8], insides: &[u8], outsides: &[u8], h: usize) -> u8
+    requires { ⌜ Standing 64 (now parents) (now insides) (now outsides) × (h < 64) ⌝ }
+    ensures { λ r. ⌜ r ≡ cond (rootMeets g (branchOf (now (parents .entry)) (now (insides .entry)) (now (outsides .entry))) h) h 64 ⌝ }
+{
+    let k = h as u8;
+    let p = parents[h];
+    let fit = fits(g, insides, outsides, h);
+    if p != k {
+        return 64;
+    }
+    if fit {
+        return k;
+    }
+    64
+}
+
+// The first root whose class meets the masks, or 64. Without a way out the loop is compiled to tests of several roots at once.
+fn first_fit(g: Guard, parents: &[u8], insides: &[u8], outsides: &[u8]) -> u8
+    requires { ⌜ Standing 64 (now parents) (now insides) (now outsides) ⌝ }
+    ensures { λ r. ⌜ FirstOf (rootMeets g (branchOf (now (parents .entry)) (now (insides .entry)) (now (outsides .entry)))) 64 r ⌝ }
+{
+    let mut low = 64u8;
+    for h in 0..64 {
+        let c = fitting(g, parents, insides, outsides, h);
+        if c < low {
+            low = c;
+        }
+    }
+    low
+}
+
+// The guard of rule j. Where it has many roots to test, it begins at the first whose class meets the masks.
+pub fn guard_at(
+    parents: &[u8],
+    insides: &[u8],
+    outsides: &[u8],
+    list: &[u8],
+    terms: u8,
+    l: Constraint,
+    j: u8,
+) -> Guard
+    requires { ⌜ Standing terms (now parents) (now insides) (now outsides) × Handled (now list) l × RuleOf (decoded (map term (now list)) l) j ⌝ }
+    ensures { λ r. ⌜ Guards terms (branchOf (now (parents .entry)) (now (insides .entry)) (now (outsides .entry))) (decoded (map term (now (list .entry))) l) j r ⌝ }
+{
+    let g = guard_of(parents, insides, outsides, list, terms, l, j);
+    if j == 19 {
+        return g;
+    }
+    if g.from != 0 {
+        return g;
+    }
+    if g.end < 8 {
+        return g;
+    }
+    let from = first_fit(g, parents, insides, outsides);
+    Guard {
+        from: from,
+        end: g.end,
+        inside: g.inside,
+        outside: g.outside,
+        notin: g.notin,
+        notout: g.notout,
+    }
+}
+
+// 1 if h is a root whose class meets the masks; otherwise 0.
+fn fitted(g: Guard, parents: &[u8], insides: &[u8], outsides: &[u8], h: usize) -> u8
+    requires { ⌜ Standing 64 (now parents) (now insides) (now outsides) × (h < 64) ⌝ }
+    ensures { λ r. ⌜ r ≡ cond (rootMeets g (branchOf (now (parents .entry)) (now (insides .entry)) (now (outsides .entry))) h) 1 0 ⌝ }
+{
+    let k = h as u8;
+    let p = parents[h];
+    let fit = fits(g, insides, outsides, h);
+    if p != k {
+        return 0;
+    }
+    if fit {
+        return 1;
+    }
+    0
+}
+
+// Whether some root's class meets the masks. As in first_fit the loop has no way out.
+fn some_fit(g: Guard, parents: &[u8], insides: &[u8], outsides: &[u8]) -> bool
+    requires { ⌜ Standing 64 (now parents) (now insides) (now outsides) ⌝ }
+    ensures { λ r. ⌜ r ≡ any (rootMeets g (branchOf (now (parents .entry)) (now (insides .entry)) (now (outsides .entry)))) (upFrom 0 64) ⌝ }
+{
+    let mut found = 0u8;
+    for h in 0..64 {
+        found = found | fitted(g, parents, insides, outsides, h);
+    }
+    found != 0
+}
+
+// Whether some root's class meets the guard of a rule from first up to the end, of sets with masks x, y and z.
+fn rows_met(
+    parents: &[u8],
+    insides: &[u8],
+    outsides: &[u8],
+    first: u8,
+    end: u8,
+    x: u8,
+    y: u8,
+    z: u8,
+) -> bool
+    requires { ⌜ Standing 64 (now parents) (now insides) (now outsides) × ((j : ℕ) → first ≤ j → j < end → (5 ≤ j) × (j ≤ 18) × ¬ (j ≡ 7)) ⌝ }
+    ensures { λ r. ⌜ r ≡ rowsMet (branchOf (now (parents .entry)) (now (insides .entry)) (now (outsides .entry))) first end x y z ⌝ }
+{
+    for j in first..end {
+        let g = row(j, 64, x, y, z);
+        if some_fit(g, parents, insides, outsides) {
+            return true;
+        }
+    }
+    false
+}
+
+// Whether a constraint of kind 1 to 10 has nothing to do by its rules: what it says of p and q is known, or of its witness w, or no root's class meets a guard of the relation of p, q and s. Of few terms a relation is not asked: its rules are soon tested.
+pub fn idle(
+    parents: &[u8],
+    insides: &[u8],
+    outsides: &[u8],
+    terms: u8,
+    kind: u8,
+    p: u8,
+    q: u8,
+    s: u8,
+    w: u8,
+    span: Span,
+) -> bool
+    requires { ⌜ Standing 64 (now parents) (now insides) (now outsides) × Reaching kind p q s w (span .first) (span .end) ⌝ }
+    ensures { λ r. ⌜ r ≡ quiet (branchOf (now (parents .entry)) (now (insides .entry)) (now (outsides .entry))) terms kind p q s w (span .first) (span .end) ⌝ }
+{
+    match kind {
+        1 => {
+            let h = find(parents, p as usize);
+            has(insides[h], q)
+        }
+        2 => {
+            let h = find(parents, p as usize);
+            has(outsides[h], q)
+        }
+        3 => find(parents, p as usize) == find(parents, q as usize),
+        4 => find(parents, p as usize) != find(parents, q as usize),
+        6 => {
+            let h = find(parents, w as usize);
+            let i = insides[h];
+            let o = outsides[h];
+            apart(has(i, p), has(o, q), has(o, p), has(i, q))
+        }
+        5 | 7 | 8 | 9 | 10 => {
+            if terms < 8 {
+                return false;
+            }
+            let met = rows_met(
+                parents,
+                insides,
+                outsides,
+                span.first,
+                span.end,
+                1 << p,
+                1 << q,
+                1 << s,
+            );
+            !met
+        }
+        _ => false,
     }
 }

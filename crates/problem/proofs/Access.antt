@@ -23,7 +23,7 @@ use Rattle.calculus.proofs.Refuses.{refuses}
 use Rattle.problem.specs.declared.Table.{Table}
 use Rattle.questions.specs.Questions.{constantsOf, constantAt}
 use Rattle.problem.specs.Sections.{startsFrom, witnessesFrom, filled}
-use Rattle.problem.specs.Table.{headerLength, problemTable, tableIs, tableOf, Opened, valuesOf, constantOf, constraintsOf, noConstraint, constraintOf, kindOf, listed, witnessesOf, witnessOf}
+use Rattle.problem.specs.Table.{headerLength, problemTable, tableIs, tableOf, Opened, Stands, valuesOf, constantOf, constraintsOf, noConstraint, constraintOf, kindOf, listed, witnessesOf, witnessOf}
 use Rattle.questions.proofs.Constants.{constant-at}
 use Rattle.problem.proofs.ConstraintSteps.{starts-length}
 
@@ -201,6 +201,18 @@ module _ (bs : List ℕ) (tab : Table) (i : ℕ) (h : Placed bs tab i) (k : kind
       let d : drop (from + 3) bs ≡ es ++ h .rest = sym (drop-drop 3 from bs) ∙ ap (drop 3) (from-bytes .1) in
       let m : length es ≡ length (listed (constraintOf bs i)) = length-map (listed (constraintOf bs i)) (λ (e : Term). e .index) in
       ap (map term) (e ∙ ap₂ (λ (x : ℕ) (y : List ℕ). take x y) n d ∙ take-at es (h .rest) (length (listed (constraintOf bs i))) m) ∙ term-index (listed (constraintOf bs i))
+
+-- the same of a constraint that stands at an offset
+module _ (bs : List ℕ) (i at : ℕ) (s : Stands bs i at) where
+  pub place-of : Placed bs (s .tab) i
+  place-of = placed bs (s .tab) i (s .opened) (s .there)
+
+  module _ (k : kindOf (constraintOf bs i) ≡ 11) where
+    pub entries-fit : (at + 2 < length bs) × (at + 3 + getD bs (at + 2) 0 ≤ length bs)
+    entries-fit = subst (λ (x : ℕ). (x + 2 < length bs) × (x + 3 + getD bs (x + 2) 0 ≤ length bs)) (sym (s .offset)) (list-fits bs (s .tab) i place-of k)
+
+    pub entries-read : (r : List ℕ) → r ≡ take (at + 3 + getD bs (at + 2) 0 - (at + 3)) (drop (at + 3) bs) → map term r ≡ listed (constraintOf bs i)
+    entries-read = subst (λ (x : ℕ). (r : List ℕ) → r ≡ take (x + 3 + getD bs (x + 2) 0 - (x + 3)) (drop (x + 3) bs) → map term r ≡ listed (constraintOf bs i)) (sym (s .offset)) (list-read bs (s .tab) i place-of k)
 
 -- ---- the witnesses
 

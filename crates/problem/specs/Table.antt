@@ -1,7 +1,7 @@
 -- A problem's table, and what is read through it. Assumes nothing: these are definitions.
 use mathlib.Core.Path.{_≡_}
 use mathlib.Core.List.{List, []}
-use Prim.Native.Nat.{ℕ, _+_, _*_}
+use Prim.Native.Nat.{ℕ, _+_, _*_, _<_}
 use lib.ListN.{length, getD, replicate}
 use lib.IntN.{ℤ, pos}
 use Rattle.calculus.specs.Terms.{Term, SetVar, term}
@@ -47,6 +47,13 @@ tableOf bs = tableIs (read bs)
 pub record Opened (bs : List ℕ) (tab : Table) : Type 0 where
   pub made : tab ≡ tableOf bs
   pub accepted : tab .refusal ≡ 0
+
+-- constraint i of a problem is there, and its kind byte stands at an offset
+pub record Stands (bs : List ℕ) (i at : ℕ) : Type 0 where
+  pub tab : Table
+  pub opened : Opened bs tab
+  pub there : i < tab .constraints
+  pub offset : at ≡ getD (tab .offsets) i 0
 
 -- the constants of a problem that was read, and the value of constant t
 unfoldable pub valuesOf : Parsed Problem → List ℤ

@@ -14,7 +14,7 @@ ghost use Rattle.calculus.specs.Terms.{term};
 ghost use Rattle.calculus.specs.Reading.{readConstraints};
 ghost use Rattle.questions.specs.Questions.{ConstantsRise, constantsOf};
 ghost use Rattle.problem.specs.Sections.{variablesOf, setsOf};
-ghost use Rattle.problem.specs.Table.{tableOf, tableIs, refusedTable, Opened, kindOf, constraintOf, listed};
+ghost use Rattle.problem.specs.Table.{tableOf, tableIs, refusedTable, Stands, kindOf, constraintOf, listed};
 
 // A problem's table (specs/Table.antt says what it holds). Nothing else is kept: all is read from the problem's bytes.
 pub struct Table {
@@ -113,13 +113,12 @@ pub fn read(problem: &[u8]) -> Table
     )
 }
 
-// The entries of a list constraint: the part of the problem that has them.
-pub fn entries<'a>(problem: &'a [u8], tab: Table, i: usize) -> &'a [u8]
-    requires { ⌜ Opened (now problem) tab × (i < tab .constraints) × (kindOf (constraintOf (now problem) i) ≡ 11) ⌝ }
+// The entries of list constraint i, which stands at an offset: the part of the problem that has them.
+pub fn entries(problem: &[u8], i: usize, at: usize) -> &[u8]
+    requires { ⌜ Stands (now problem) i at × (kindOf (constraintOf (now problem) i) ≡ 11) ⌝ }
     ensures { λ r. ⌜ map term (now r) ≡ listed (constraintOf (now (problem .entry)) i) ⌝ }
 {
-    let start = tab.offsets[i] as usize;
-    let a = start + 3;
-    let e = a + problem[start + 2] as usize;
+    let a = at + 3;
+    let e = a + problem[at + 2] as usize;
     &problem[a..e]
 }

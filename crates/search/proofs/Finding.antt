@@ -3,7 +3,7 @@ use mathlib.Core.Path.{_≡_, refl, sym, ap, _∙_, subst}
 use mathlib.Core.Logic.{_⊎_, inl, inr}
 use mathlib.Core.Bool.{Bool, true, false}
 use mathlib.Core.Option.{some}
-use mathlib.Core.List.{List, [], map}
+use mathlib.Core.List.{List, map}
 use Prim.Native.Nat.{ℕ, _+_, _-_, _<_, _≤_}
 use native.Mathlib.Omega.{arith}
 use lib.ListN.{length, getD, length-map}
@@ -18,13 +18,13 @@ use Rattle.calculus.specs.Reading.{read}
 use Rattle.calculus.proofs.Bools.{map-Each}
 use Rattle.calculus.proofs.RuleLaws.{ConstraintIn}
 use Rattle.problem.specs.declared.Table.{Table}
-use Rattle.problem.specs.Table.{Opened, problemTable, constraintsOf, constraintOf, noConstraint}
+use Rattle.problem.specs.Table.{Opened, Stands, problemTable, constraintsOf, constraintOf, kindOf, noConstraint}
 use Rattle.problem.proofs.Access.{opened, opened-sizes, constraint-count}
 use Rattle.places.specs.Places.{propagationSpan, splitSpan, spanOf, InSpan, RuleOf, entriesOf, moveAt, firstAt}
 use Rattle.places.proofs.Offered.{position-of}
 use Rattle.constraints.specs.declared.Constraint.{Constraint}
-use Rattle.constraints.specs.declared.Constraint.the-variants.{Member, Nonmember, Same, Different, Related, Negated, Exactly, Interval}
 use Rattle.constraints.specs.Decoded.{decoded, Handled, Unpacked}
+use Rattle.constraints.proofs.Decoding.{kind-here}
 use Rattle.guards.specs.declared.Guard.{Guard}
 use Rattle.guards.specs.Guarded.{passes, Guards, Standing}
 use Rattle.search.specs.declared.Place.{Place}
@@ -60,21 +60,9 @@ rule-from-1 false l j h = from-1 (propagationSpan l) j (numbered l .0) h
 rule-from-1 true l j h = from-1 (splitSpan l) j (numbered l .1) h
 
 -- a propagation rule and a split are rules of the constraint
-rule-of : (split : Bool) (l : calculus.Constraint) (j : ℕ) → InSpan (spanOf split l) j → RuleOf l j
+pub rule-of : (split : Bool) (l : calculus.Constraint) (j : ℕ) → InSpan (spanOf split l) j → RuleOf l j
 rule-of false l j h = inl h
 rule-of true l j h = inr h
-
--- the rules do not depend on the entries
-same-span : (split : Bool) (es : List Term) (l : Constraint) → spanOf split (decoded [] l) ≡ spanOf split (decoded es l)
-same-span split es (Member t A) = refl
-same-span split es (Nonmember t A) = refl
-same-span split es (Same t u) = refl
-same-span split es (Different t u) = refl
-same-span split es (Related k A B C) = refl
-same-span split es (Negated k A B C w) = refl
-same-span false es (Exactly A) = refl
-same-span true es (Exactly A) = refl
-same-span split es (Interval A x y) = refl
 
 -- ---- the problem
 
@@ -133,6 +121,13 @@ module _ (split : Bool) (n : ℕ) (ls : List calculus.Constraint) (b : Branch) (
     within = λ z. absurd (z e);
   }
 
+  -- a constraint without rules is passed over
+  pub no-rules : AtConstraint split n ls b i → i < length ls → (first end : ℕ) → first ≡ spanOf split (getD ls i noConstraint) .0 → end ≡ spanOf split (getD ls i noConstraint) .1 → end ≤ first → AtConstraint split n ls b (i + 1)
+  no-rules a h first end f e k = record {
+    standing = a .standing;
+    left = a .left ∙ constraint-miss split n ls b i h (rules-begin n b split (getD ls i noConstraint) ∙ rules-done n b (getD ls i noConstraint) (spanOf split (getD ls i noConstraint) .0) (spanOf split (getD ls i noConstraint) .1) (omega arith));
+  }
+
   module _ (j end : ℕ) where
     -- past its last rule none of constraint i applies
     pub next-constraint : AtRule split n ls b i j end → end ≤ j → AtConstraint split n ls b (i + 1)
@@ -180,6 +175,11 @@ search-start split bs tab o b f p i u = record {
   left = constraints-begin split (tab .terms) (constraintsOf (read bs)) b;
 }
 
+-- the kind byte is that of constraint i
+pub kind-is : (bs : List ℕ) (i at : ℕ) → Stands bs i at → kindOf (getD (constraintsOf (read bs)) i noConstraint) ≡ getD bs at 0
+unfolding constraintOf
+kind-is bs i at s = sym (kind-here bs i at s)
+
 module _ (bs : List ℕ) (i : ℕ) (es : List ℕ) (l : Constraint) (u : Unpacked bs i es l) where
   -- constraint i is the one decoded
   constraint-is : getD (constraintsOf (read bs)) i noConstraint ≡ decoded (map term es) l
@@ -188,19 +188,16 @@ module _ (bs : List ℕ) (i : ℕ) (es : List ℕ) (l : Constraint) (u : Unpacke
 
   module _ (split : Bool) (n : ℕ) (b : Branch) where
     -- at the first rule of constraint i
-    pub rules-start : AtConstraint split n (constraintsOf (read bs)) b i → i < length (constraintsOf (read bs)) → (first end : ℕ) → first ≡ spanOf split (decoded [] l) .0 → end ≡ spanOf split (decoded [] l) .1 → AtRule split n (constraintsOf (read bs)) b i first end
+    pub rules-start : AtConstraint split n (constraintsOf (read bs)) b i → i < length (constraintsOf (read bs)) → (first end : ℕ) → first ≡ spanOf split (getD (constraintsOf (read bs)) i noConstraint) .0 → end ≡ spanOf split (getD (constraintsOf (read bs)) i noConstraint) .1 → AtRule split n (constraintsOf (read bs)) b i first end
     rules-start a h first end f e =
         let this : calculus.Constraint = getD (constraintsOf (read bs)) i noConstraint in
-        let s : spanOf split (decoded [] l) ≡ spanOf split this = same-span split (map term es) l ∙ ap (spanOf split) (sym constraint-is) in
-        let f' : first ≡ spanOf split this .0 = f ∙ ap (λ (x : ℕ × ℕ). x .0) s in
-        let e' : end ≡ spanOf split this .1 = e ∙ ap (λ (x : ℕ × ℕ). x .1) s in
         record {
           before = a;
           in-problem = h;
           in-range = subst (ConstraintIn 64 8) (sym constraint-is) (u .handled .in-range);
-          begun = omega (arith, f');
-          ends = e';
-          left = rw (f', e') (rules-begin n b split this);
+          begun = omega (arith, f);
+          ends = e;
+          left = rw (f, e) (rules-begin n b split this);
         }
 
     module _ (j end : ℕ) (a : AtRule split n (constraintsOf (read bs)) b i j end) (h : j < end) where

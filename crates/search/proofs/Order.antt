@@ -45,7 +45,7 @@ module _ (p : ℕ → Bool) (k n : ℕ) where
 -- ---- rules: the same from rule j up to the end
 
 module _ (n : ℕ) (b : Branch) where
-  abbrev holds : Term × Move → Bool
+  abbrev pub holds : Term × Move → Bool
   holds m = applies (known b) (m .1)
 
   -- the first move of one constraint

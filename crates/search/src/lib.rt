@@ -1,9 +1,11 @@
 // The first place where a rule applies.
 use branch::Branch;
-use constraints::decode;
-use constraints::list;
+use constraints::decode_at;
+use constraints::list_at;
+use constraints::third;
 use guards::applies;
 use guards::guard_at;
+use guards::idle;
 use guards::rules;
 use problem::Table;
 ghost use mathlib.Core.Path.{_≡_};
@@ -29,6 +31,8 @@ pub fn search<'a>(problem: &'a [u8], numbers: &'a [u8], tab: Table, b: Branch, s
     let parents = b.parents;
     let insides = b.insides;
     let outsides = b.outsides;
+    let offsets = tab.offsets;
+    let witnesses = tab.witnesses;
     let terms = tab.terms;
     let count = tab.constraints;
     let mut place = Place {
@@ -37,21 +41,32 @@ pub fn search<'a>(problem: &'a [u8], numbers: &'a [u8], tab: Table, b: Branch, s
         position: 0,
     };
     'search: for i in 0..count {
-        let l = decode(problem, tab, i as usize);
-        let entries = list(problem, numbers, tab, i as usize, l);
-        let span = rules(l, split);
+        let n = i as usize;
+        let at = offsets[n] as usize;
+        let kind = problem[at];
+        let span = rules(kind, split);
         let end = span.end;
-        for j in span.first..end {
-            let guard = guard_at(&parents, &insides, &outsides, entries, terms, l, j);
-            let last = guard.end;
-            for p in guard.from..last {
-                if applies(&parents, &insides, &outsides, entries, guard, j, p) {
-                    place = Place {
-                        constraint: i,
-                        rule: j,
-                        position: p,
-                    };
-                    break 'search;
+        if span.first < end {
+            let p = problem[at + 1];
+            let q = problem[at + 2];
+            let s = third(problem, at);
+            let w = witnesses[n];
+            if !idle(&parents, &insides, &outsides, terms, kind, p, q, s, w, span) {
+                let l = decode_at(problem, n, at, w);
+                let entries = list_at(problem, numbers, n, at, l);
+                for j in span.first..end {
+                    let guard = guard_at(&parents, &insides, &outsides, entries, terms, l, j);
+                    let last = guard.end;
+                    for p in guard.from..last {
+                        if applies(&parents, &insides, &outsides, entries, guard, j, p) {
+                            place = Place {
+                                constraint: i,
+                                rule: j,
+                                position: p,
+                            };
+                            break 'search;
+                        }
+                    }
                 }
             }
         }

@@ -1,22 +1,23 @@
 -- Facts asserted one after the other.
-use mathlib.Core.Path.{_≡_, refl, sym, ap, _∙_, subst}
+use mathlib.Core.Path.{_≡_, refl, sym, ap, _∙_}
 use mathlib.Core.Bool.{Bool, true, false}
 use mathlib.Core.Option.{Option, none, some}
 use mathlib.Core.List.{List, [], _∷_, map}
-use Prim.Native.Nat.{ℕ, zero, suc, _<_}
+use Prim.Native.Nat.{ℕ, zero, suc, _^_, _<_}
 use native.Mathlib.Omega.{arith}
 use lib.ListN.{getD}
-use Rattle.calculus.specs.Terms.{Term, SetVar}
+use Rattle.calculus.specs.Terms.{Term, SetVar, term, setVar}
 use Rattle.calculus.specs.Relations.{Operand, Literal}
 use Rattle.calculus.specs.Relations as R
 use Rattle.calculus.specs.Branch as calculus
-use Rattle.calculus.specs.Branch.{root, Fact, In, Out, known, addInside, addOutside, conflictIf, assert, assertAll}
-use Rattle.calculus.specs.Invariants.{Falls}
+use Rattle.calculus.specs.Branch.{rootAt, Fact, In, Out, conflictIf, assert, assertAll}
 use Rattle.calculus.specs.Search.{factOf}
 use Rattle.branch.specs.declared.Branch.{Branch}
 use Rattle.branch.specs.declared.Asserted.{Asserted}
 use Rattle.branch.specs.Held.{held, answer}
 use Rattle.branch.proofs.Laws.{assert-any, assert-any-out, no-conflict, conflict-none}
+use Rattle.branch.proofs.Roots.{root-is}
+use Rattle.branch.proofs.Answers.{in-asserted, out-asserted}
 use Rattle.places.proofs.Slots.{assert-one}
 
 -- the constants play no part in literals
@@ -39,34 +40,3 @@ literals-any constants t s (x ∷ xs) b =
 pub only-child : (constants : List Term) (b : calculus.Branch) (f : Fact) (c : ℕ) → c < 1 → assertAll constants b (getD ((f ∷ []) ∷ []) c []) ≡ assert constants b f
 only-child constants b f zero l = assert-one constants b f
 only-child constants b f (suc c) l = absurd (omega arith)
-
--- asserting that a term is in a set, or out of it, leaves the parents
-kept : (b : Branch) (x : Bool) (c : calculus.Branch) → c .parents ≡ b .parents → answer b (conflictIf x c) .branch .parents ≡ b .parents
-unfolding answer
-kept b true c e = refl
-kept b false c e = e
-
-pub in-falls : (b : Branch) (t : Term) (A : SetVar) (r : Asserted) → r ≡ answer b (assert [] (held b) (In t A)) → Falls (b .parents) → Falls (r .branch .parents)
-unfolding assert addInside
-in-falls b t A r e = subst Falls (sym (ap (λ (x : Asserted). x .branch .parents) e ∙ kept b (known (held b) (Out t A)) (addInside (held b) (root (held b) t) A) refl))
-
-pub out-falls : (b : Branch) (t : Term) (A : SetVar) (r : Asserted) → r ≡ answer b (assert [] (held b) (Out t A)) → Falls (b .parents) → Falls (r .branch .parents)
-unfolding assert addOutside
-out-falls b t A r e = subst Falls (sym (ap (λ (x : Asserted). x .branch .parents) e ∙ kept b (known (held b) (In t A)) (addOutside (held b) (root (held b) t) A) refl))
-
--- two facts: r answers the first, and q the second
-module _ (b : Branch) (f g : Fact) (r : Asserted) (e : r ≡ answer b (assert [] (held b) f)) where
-  pub first-conflicts : r .conflict ≡ true → r ≡ answer b (assertAll [] (held b) (f ∷ g ∷ []))
-  first-conflicts x = let n : assert [] (held b) f ≡ none = conflict-none b [] f r e .0 x in e ∙ ap (answer b) (n ∙ sym (rw (n, assertAll) refl))
-
-  module _ (x : r .conflict ≡ false) (q : Asserted) (d : q ≡ answer (r .branch) (assert [] (held (r .branch)) g)) where
-    both : assertAll [] (held b) (f ∷ g ∷ []) ≡ assert [] (held (r .branch)) g
-    both = let n : assert [] (held b) f ≡ some (held (r .branch)) = no-conflict b [] f r e x in rw (n, assertAll) (assert-one [] (held (r .branch)) g)
-
-    pub second-conflicts : q .conflict ≡ true → _≡_ {A = Asserted} (record { branch = b; conflict = true }) (answer b (assertAll [] (held b) (f ∷ g ∷ [])))
-    unfolding answer
-    second-conflicts y = rw (both, conflict-none (r .branch) [] g q d .0 y)
-
-    pub none-conflicts : q .conflict ≡ false → q ≡ answer b (assertAll [] (held b) (f ∷ g ∷ []))
-    unfolding answer
-    none-conflicts y = rw (both, no-conflict (r .branch) [] g q d y) (λ i. record { branch = q .branch; conflict = y i })

@@ -2,11 +2,13 @@
 use mathlib.Core.Path.{_≡_, refl, sym, ap, _∙_, subst}
 use mathlib.Core.Logic.{_⊎_, inl, inr, ⊎-elim}
 use mathlib.Core.Option.{Option, none}
-use mathlib.Core.List.{List, [], map}
+use mathlib.Core.List.{List, [], _∷_, map}
 use Prim.Native.Nat.{ℕ, _≤_, _<_}
 use native.Mathlib.Omega.{arith}
 use lib.ListN.{length, getD}
-use Rattle.calculus.specs.Terms.{Term, SetVar, term}
+use types.Run.{OneOf, miss}
+use denote.Enum.Declared.{tagOf}
+use Rattle.calculus.specs.Terms.{Term, SetVar, term, setVar}
 use Rattle.calculus.specs.Relations.{Relation, equal, union, disjoint, subset, intersection, Negation, unequal}
 use Rattle.calculus.specs.Meaning as meaning
 use Rattle.calculus.specs.Meaning.{member, nonmember, same, different, relation, negation, exactly, interval, entries}
@@ -16,8 +18,12 @@ use Rattle.places.specs.Places.{InSpan, RuleOf}
 use Rattle.places.specs.Alternatives.{slotsOf, childOf}
 use Rattle.places.proofs.Slots.{in-spans}
 use Rattle.constraints.specs.declared.Constraint.{Constraint}
-use Rattle.constraints.specs.Decoded.{decoded, Handled}
-use Rattle.step.specs.Numbered.{rowNumbered, factsOf, listChild}
+use Rattle.constraints.specs.declared.Constraint.the-variants.{Member, Nonmember, Same as Equated, Different, Related, Negated, Exactly, Interval}
+use Rattle.constraints.proofs.Constraint.{the-type}
+use Rattle.constraints.specs.declared.Relation.{Relation as CodedRelation}
+use Rattle.terms.specs.declared.SetVar.{SetVar as CodedSet}
+use Rattle.constraints.specs.Decoded.{relationOf, decoded, Handled}
+use Rattle.step.specs.Numbered.{rowNumbered, factsOf, listChild, setNumber}
 use Rattle.step.proofs.Asserting.{only-child}
 use Rattle.step.proofs.Rows.{slots-numbered, facts-any}
 use Rattle.step.proofs.Entries.{slots-20}
@@ -114,3 +120,40 @@ module _ (es : List ℕ) (l m : Constraint) (e : l ≡ m) (j c : ℕ) where
 pub entry-number : (es : List ℕ) (l : Constraint) (j c : ℕ) → Handled es l → InSpan (19, 20) j ⊎ InSpan (20, 21) j → c < slotsOf (decoded (map term es) l) j → ¬ (j ≡ 19) → c < length es
 entry-number es l j c h (inl r) n k = absurd (k (omega arith))
 entry-number es l j c h (inr r) n k = subst (λ (m : ℕ). c < m) (slots-20 es l h j (omega arith)) n
+
+-- a negation's rule is 7, and none of a relation's is
+pub negation-rule : (j : ℕ) → InSpan (0, 0) j ⊎ InSpan (7, 8) j → j ≡ 7
+negation-rule j r = ⊎-elim (λ w. absurd (omega arith)) (λ w. omega arith) r
+
+not-7 : (k : Relation) (x y z : SetVar) (j : ℕ) → RuleOf (relation k x y z) j → ¬ (j ≡ 7)
+not-7 equal x y z j r e = ⊎-elim (λ w. omega arith) (λ w. omega arith) r
+not-7 union x y z j r e = ⊎-elim (λ w. omega arith) (λ w. omega arith) r
+not-7 disjoint x y z j r e = ⊎-elim (λ w. omega arith) (λ w. omega arith) r
+not-7 subset x y z j r e = ⊎-elim (λ w. omega arith) (λ w. omega arith) r
+not-7 intersection x y z j r e = ⊎-elim (λ w. omega arith) (λ w. omega arith) r
+
+pub relation-rule : (es : List ℕ) (j : ℕ) {l : Constraint} {k : CodedRelation} {a b c : CodedSet} → l ≡ Related k a b c → RuleOf (decoded (map term es) l) j → ¬ (j ≡ 7)
+relation-rule es j {l} {k} {a} {b} {c} e r = not-7 (relationOf k) (setVar (a .0)) (setVar (b .0)) (setVar (c .0)) j (subst (λ (x : Constraint). RuleOf (decoded (map term es) x) j) e r)
+
+-- any other constraint is neither
+pub no-set : (l : Constraint) → OneOf (0 ∷ 1 ∷ 2 ∷ 3 ∷ 4 ∷ 5 ∷ []) (tagOf the-type l) → 0 ≡ setNumber l
+no-set (Member t A) k = refl
+no-set (Nonmember t A) k = refl
+no-set (Equated t u) k = refl
+no-set (Different t u) k = refl
+no-set (Related q A B C) k = refl
+no-set (Negated q A B C w) k = refl
+no-set (Exactly A) k = absurd (miss (0 ∷ 1 ∷ 2 ∷ 3 ∷ 4 ∷ 5 ∷ []) 6 tt k)
+no-set (Interval A t u) k = absurd (miss (0 ∷ 1 ∷ 2 ∷ 3 ∷ 4 ∷ 5 ∷ []) 7 tt k)
+
+-- a list or an interval: its set, its rules and its children
+pub list-case : (es : List ℕ) (l : Constraint) → OneOf (6 ∷ 7 ∷ []) (tagOf the-type l) → (j c : ℕ) → Handled es l → RuleOf (decoded (map term es) l) j → c < slotsOf (decoded (map term es) l) j
+    → (setNumber l < 8) × (InSpan (19, 20) j ⊎ InSpan (20, 21) j) × ((constants : List Term) (b : Branch) (p : ℕ) → childOf constants b (decoded (map term es) l) j p c ≡ listChild constants b (map term es) (setVar (setNumber l)) j p c)
+list-case es (Member t A) k j c h r n = absurd (miss (6 ∷ 7 ∷ []) 0 tt k)
+list-case es (Nonmember t A) k j c h r n = absurd (miss (6 ∷ 7 ∷ []) 1 tt k)
+list-case es (Equated t u) k j c h r n = absurd (miss (6 ∷ 7 ∷ []) 2 tt k)
+list-case es (Different t u) k j c h r n = absurd (miss (6 ∷ 7 ∷ []) 3 tt k)
+list-case es (Related q A B C) k j c h r n = absurd (miss (6 ∷ 7 ∷ []) 4 tt k)
+list-case es (Negated q A B C w) k j c h r n = absurd (miss (6 ∷ 7 ∷ []) 5 tt k)
+list-case es (Exactly A) k j c h r n = (h .in-range .0, r, λ constants b p. exactly-child constants b j p c (setVar (A .0)) (map term es) r n)
+list-case es (Interval A t u) k j c h r n = (h .in-range .0, r, λ constants b p. interval-child constants b j p c (setVar (A .0)) (term (t .0)) (term (u .0)) (map term es) (h .entries-are) r n)

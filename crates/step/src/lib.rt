@@ -1,7 +1,7 @@
 // The children of a step.
 use branch::Asserted;
 use branch::Branch;
-use branch::root_at;
+use branch::find;
 use constraints::Constraint;
 use terms::SetVar;
 use terms::Term;
@@ -19,7 +19,7 @@ ghost use Rattle.branch.specs.Held.{held, rootOf, answer, Good};
 ghost use Rattle.constraints.specs.Decoded.{decoded, Handled};
 ghost use Rattle.places.specs.Places.{RuleOf, moveAt};
 ghost use Rattle.places.specs.Alternatives.{slotsOf, childOf};
-ghost use Rattle.step.specs.Numbered.{rowNumbered, factsOf, listChild};
+ghost use Rattle.step.specs.Numbered.{rowNumbered, factsOf, listChild, setNumber};
 
 // How many children rule j of a constraint can have.
 pub fn slots(list: &[u8], l: Constraint, j: u8) -> usize
@@ -51,49 +51,9 @@ pub fn concerned(b: Branch, list: &[u8], l: Constraint, constants: u8, j: u8, p:
     p
 }
 
-// t is in x, and then out of y.
-fn in_out(b: Branch, t: Term, x: SetVar, y: SetVar) -> Asserted
-    requires { ⌜ (t .0 < 64) × (x .0 < 8) × (y .0 < 8) × Falls (b .parents) ⌝ }
-    ensures { λ r. ⌜ r ≡ answer b (assertAll [] (held b) (In (term (t .0)) (setVar (x .0)) ∷ Out (term (t .0)) (setVar (y .0)) ∷ [])) ⌝ }
-{
-    let first = b.assert_in(t, x);
-    if first.conflict {
-        return first;
-    }
-    let next = first.branch;
-    let second = next.assert_out(t, y);
-    if second.conflict {
-        return Asserted {
-            branch: b,
-            conflict: true,
-        };
-    }
-    second
-}
-
-// t is out of x, and then in y.
-fn out_in(b: Branch, t: Term, x: SetVar, y: SetVar) -> Asserted
-    requires { ⌜ (t .0 < 64) × (x .0 < 8) × (y .0 < 8) × Falls (b .parents) ⌝ }
-    ensures { λ r. ⌜ r ≡ answer b (assertAll [] (held b) (Out (term (t .0)) (setVar (x .0)) ∷ In (term (t .0)) (setVar (y .0)) ∷ [])) ⌝ }
-{
-    let first = b.assert_out(t, x);
-    if first.conflict {
-        return first;
-    }
-    let next = first.branch;
-    let second = next.assert_in(t, y);
-    if second.conflict {
-        return Asserted {
-            branch: b,
-            conflict: true,
-        };
-    }
-    second
-}
-
-// Child c of rule j, 5 to 18, at term t; the operands are x, y and z.
+// Child c of rule j, 5 to 18 but 7, at term t; the operands are x, y and z.
 fn related(b: Branch, j: u8, t: Term, x: SetVar, y: SetVar, z: SetVar, c: usize) -> Asserted
-    requires { ⌜ (5 ≤ j) × (j < 19) × (t .0 < 64) × (x .0 < 8) × (y .0 < 8) × (z .0 < 8) × Falls (b .parents) × (c < length (rowNumbered j .alternatives)) ⌝ }
+    requires { ⌜ (5 ≤ j) × (j < 19) × ¬ (j ≡ 7) × (t .0 < 64) × (x .0 < 8) × (y .0 < 8) × (z .0 < 8) × Falls (b .parents) × (c < length (rowNumbered j .alternatives)) ⌝ }
     ensures { λ r. ⌜ r ≡ answer b (assertAll [] (held b) (factsOf (term (t .0)) (setVar (x .0)) (setVar (y .0)) (setVar (z .0)) j c)) ⌝ }
 {
     match j {
@@ -101,17 +61,11 @@ fn related(b: Branch, j: u8, t: Term, x: SetVar, y: SetVar, z: SetVar, c: usize)
         6 | 11 | 16 => b.assert_in(t, x),
         13 => b.assert_out(t, y),
         14 => b.assert_out(t, x),
-        7 => {
-            if c == 0 {
-                return in_out(b, t, x, y);
-            }
-            out_in(b, t, x, y)
-        }
         12 => {
             if c == 0 {
                 return b.assert_in(t, x);
             }
-            out_in(b, t, x, y)
+            b.assert_out_in(t, x, y)
         }
         // 8, 9 and 18
         _ => b.assert_in(t, z),
@@ -123,9 +77,9 @@ fn seen(parents: &[u8], list: &[u8], c: usize) -> bool
     requires { ⌜ (64 ≤ length (now parents)) × (c < length (now list)) × Each (λ e. e < 64) (now list) × Falls (now parents) ⌝ }
     ensures { λ r. ⌜ r ≡ any (λ e. eqb (rootOf (now (parents .entry)) e) (rootOf (now (parents .entry)) (getD (now (list .entry)) c 0))) (take c (now (list .entry))) ⌝ }
 {
-    let h = root_at(parents, list[c] as usize);
+    let h = find(parents, list[c] as usize);
     for i in 0..c {
-        let k = root_at(parents, list[i] as usize);
+        let k = find(parents, list[i] as usize);
         if k == h {
             return true;
         }
@@ -153,6 +107,17 @@ fn listed(b: Branch, list: &[u8], a: SetVar, constants: u8, j: u8, p: u8, c: usi
     b.merge(Term(p), h, constants)
 }
 
+// The set of a list or of an interval; of any other constraint set 0.
+fn set_of(l: Constraint) -> SetVar
+    ensures { λ r. ⌜ r .0 ≡ setNumber l ⌝ }
+{
+    match l {
+        Constraint::Exactly(a) => a,
+        Constraint::Interval(a, _, _) => a,
+        _ => SetVar(0),
+    }
+}
+
 // Child c of rule j at position p: the branch with its facts asserted, or a conflict.
 pub fn child(
     b: Branch,
@@ -175,9 +140,14 @@ pub fn child(
             conflict: true,
         },
         Constraint::Related(_, x, y, z) => related(b, j, Term(p), x, y, z, c),
-        Constraint::Negated(_, x, y, z, w) => related(b, j, w, x, y, z, c),
-        Constraint::Exactly(a) => listed(b, list, a, constants, j, p, c),
-        Constraint::Interval(a, _, _) => listed(b, list, a, constants, j, p, c),
+        Constraint::Negated(_, x, y, _, w) => {
+            if c == 0 {
+                return b.assert_in_out(w, x, y);
+            }
+            b.assert_out_in(w, x, y)
+        }
+        // a list or an interval
+        _ => listed(b, list, set_of(l), constants, j, p, c),
     }
 }
 

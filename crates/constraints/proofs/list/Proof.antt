@@ -1,103 +1,23 @@
-use mathlib.Core.Path.{refl, ap}
 use borrow.Author.Needs.{needs}
-use native.Mathlib.Omega.{arith}
-use lib.ListN.{length}
-use Rattle.constraints.proofs.Decoding as decoding
+use Rattle.constraints.proofs.Decoding.{stands-there}
 use Rattle.constraints.proofs.list.Statement.{statement}
 use Rattle.constraints.proofs.list.Tie as tie
 
-enum-told : tie.Need-enum-told
-enum-told c = search needs
+mul-list-at : tie.Need-mul-list-at
+mul-list-at c = search needs
 
-entries-requires : tie.Need-entries-requires
-entries-requires c κs =
-    let s = c .before .before .before .before in
-    (s .pre .0, s .pre .1, decoding.list-kind _ _ _ (s .pre .0) (s .pre .1) _ (s .pre .3) (c .enum-told .given .0 .0) (c .enum-told .given .1))
+array-read-list-at : tie.Need-array-read-list-at
+array-read-list-at c = let s = c .before .before .before in stands-there _ _ _ (s .pre .0) (s .pre .1) .0
+
+cast-list-at : tie.Need-cast-list-at
+cast-list-at c = search needs
+
+list-at-requires : tie.Need-list-at-requires
+list-at-requires c κs = search needs
 
 returns : tie.Need-returns
-returns c =
-    let s = c .before .before .before .before .before in
-    decoding.list-unpacked _ _ _ (s .pre .0) (s .pre .1) _ (s .pre .3) (c .before .enum-told .given .0 .0) (c .before .enum-told .given .1) (c .before .before .before .before .shared-slice-known .given) _ (c .entries .ensures)
-
-enum-known-l : tie.Need-enum-known-l
-enum-known-l c = search needs
-
-cast-a : tie.Need-cast-a
-cast-a c = search needs
-
-cast-z : tie.Need-cast-z
-cast-z c = search needs
-
-sub-result : tie.Need-sub-result
-sub-result c = search needs
-
-part-result-start : tie.Need-part-result-start
-part-result-start c = search needs
-
-part-result-end : tie.Need-part-result-end
-part-result-end c = search needs
-
-returns-2 : tie.Need-returns-2
-returns-2 c =
-    let s = c .before .before .before .before .before .before .before .before .before .before in
-    let l = c .before .before .before .before .before .l .given in
-    decoding.interval-empty _ _ _ (s .pre .0) (s .pre .1) _ (s .pre .3) (l .0 .0) (l .0 .1 .0) (l .0 .1 .1 .0) (l .1) (omega (arith, c .before .if1 .taken))
-
-add-e : tie.Need-add-e
-add-e c = search needs
-
-sub-result-2 : tie.Need-sub-result-2
-sub-result-2 c = search needs
-
-part-result-start-2 : tie.Need-part-result-start-2
-part-result-start-2 c = search needs
-
-part-result-end-2 : tie.Need-part-result-end-2
-part-result-end-2 c =
-    let s = c .before .before .before .before .before .before .before .before .before in
-    let l = c .before .before .before .before .l .given in
-    omega (arith, ap length (s .pre .2), decoding.interval-end _ _ _ (s .pre .0) (s .pre .1) _ (s .pre .3) (l .0 .0) (l .0 .1 .0) (l .0 .1 .1 .0) (l .1) (omega (arith, c .if1 .left)))
-
-returns-3 : tie.Need-returns-3
-returns-3 c =
-    let s = c .before .before .before .before .before .before .before .before .before .before in
-    let l = c .before .before .before .before .before .l .given in
-    decoding.interval-unpacked _ _ _ (s .pre .0) (s .pre .1) _ (s .pre .3) (l .0 .0) (l .0 .1 .0) (l .0 .1 .1 .0) (l .1) (omega (arith, c .before .if1 .left)) _ (s .args .numbers .now) (s .pre .2) refl
-
-sub-result-3 : tie.Need-sub-result-3
-sub-result-3 c = search needs
-
-part-result-start-3 : tie.Need-part-result-start-3
-part-result-start-3 c = search needs
-
-part-result-end-3 : tie.Need-part-result-end-3
-part-result-end-3 c = search needs
-
-returns-4 : tie.Need-returns-4
-returns-4 c =
-    let s = c .before .before .before .before .before in
-    decoding.others-unpacked _ _ _ (s .pre .0) (s .pre .1) _ (s .pre .3) (c .before .before .match .keys2) (c .before .match2 .keys2)
+returns c = search needs
 
 pub list-spec : {M : Type 1} → statement M
 list-spec =
-    tie.close
-    (tie.spec
-    enum-told
-    entries-requires
-    returns
-    enum-known-l
-    cast-a
-    cast-z
-    sub-result
-    part-result-start
-    part-result-end
-    returns-2
-    add-e
-    sub-result-2
-    part-result-start-2
-    part-result-end-2
-    returns-3
-    sub-result-3
-    part-result-start-3
-    part-result-end-3
-    returns-4)
+    tie.close (tie.spec mul-list-at array-read-list-at cast-list-at list-at-requires returns)

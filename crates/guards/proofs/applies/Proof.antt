@@ -13,20 +13,20 @@ cast-e c =
     let s = c .before .before .before .before .before .before in
     omega (arith, c .shared-slice-known5 .given (s .args .p))
 
-root-at-requires : tie.Need-root-at-requires
-root-at-requires c κs =
+find-requires : tie.Need-find-requires
+find-requires c κs =
     let s = c .before .before .before .before .before .before in
     (entry-in (s .pre .0) (s .args .list .now) (s .pre .1) (s .args .p) (s .pre .2 (c .before .if1 .taken)), s .pre .0 .falls)
 
 fits-requires : tie.Need-fits-requires
 fits-requires c κs =
     let s = c .before .before .before .before .before .before .before in
-    entry-masks (s .pre .0) (s .args .list .now) (s .pre .1) (s .args .p) (s .pre .2 (c .before .before .if1 .taken)) _ (c .root-at .ensures)
+    entry-masks (s .pre .0) (s .args .list .now) (s .pre .1) (s .args .p) (s .pre .2 (c .before .before .if1 .taken)) _ (c .find .ensures)
 
 returns : tie.Need-returns
 returns c =
     let s = c .before .before .before .before .before .before .before .before in
-    at-entry (s .pre .0) (s .args .g) (s .args .list .now) (s .args .j) (s .args .p) (c .before .before .before .if1 .taken) _ (c .before .root-at .ensures) _ (c .fits2 .ensures)
+    at-entry (s .pre .0) (s .args .g) (s .args .list .now) (s .args .j) (s .args .p) (c .before .before .before .if1 .taken) _ (c .before .find .ensures) _ (c .fits2 .ensures)
 
 shared-slice-read-if2 : tie.Need-shared-slice-read-if2
 shared-slice-read-if2 c =
@@ -69,7 +69,7 @@ applies-spec =
     (tie.spec
     shared-slice-read-e
     cast-e
-    root-at-requires
+    find-requires
     fits-requires
     returns
     shared-slice-read-if2

@@ -22,15 +22,15 @@ shared-slice-read-e c = omega arith
 cast-e : tie.Need-cast-e Inv-loop μ-loop
 cast-e c = omega (arith, c .shared-slice-known3 .given (c .before .before .loop .p))
 
-root-at-requires : tie.Need-root-at-requires Inv-loop μ-loop
-root-at-requires c κs =
+find-requires : tie.Need-find-requires Inv-loop μ-loop
+find-requires c κs =
     let s = c .before .before .before .before .before in
     (each-at (λ e. e < length (s .args .parents .now)) (s .args .list .now) 0 (s .pre .0) (c .before .before .loop .p) (omega arith), s .pre .1)
 
 returns : tie.Need-returns Inv-loop μ-loop
 returns c =
     let v = c .before .before .before .before .loop in
-    sym (v .inv .1 ∙ found _ _ _ (v .p) (omega arith) _ (c .before .root-at .ensures) (c .if1 .taken))
+    sym (v .inv .1 ∙ found _ _ _ (v .p) (omega arith) _ (c .before .find .ensures) (c .if1 .taken))
 
 add-p : tie.Need-add-p Inv-loop μ-loop
 add-p c = omega arith
@@ -41,7 +41,7 @@ loop-less c = omega arith
 loop-again : tie.Need-loop-again Inv-loop μ-loop
 loop-again c =
     let v = c .before .before .before .before .loop in
-    (omega arith, v .inv .1 ∙ not-here _ _ _ (v .p) (omega arith) _ (c .before .root-at .ensures) (c .if1 .left))
+    (omega arith, v .inv .1 ∙ not-here _ _ _ (v .p) (omega arith) _ (c .before .find .ensures) (c .if1 .left))
 
 returns-2 : tie.Need-returns-2 Inv-loop μ-loop
 returns-2 c =
@@ -57,7 +57,7 @@ has-root-spec =
     loop-holds
     shared-slice-read-e
     cast-e
-    root-at-requires
+    find-requires
     returns
     add-p
     loop-less

@@ -4,17 +4,17 @@ use borrow.Author.Needs.{needs}
 use Rattle.guards.proofs.root.Statement.{statement}
 use Rattle.guards.proofs.root.Tie as tie
 
-cast-root-at : tie.Need-cast-root-at
-cast-root-at c = search needs
+cast-find : tie.Need-cast-find
+cast-find c = search needs
 
-root-at-requires : tie.Need-root-at-requires
-root-at-requires c κs = search needs
+find-requires : tie.Need-find-requires
+find-requires c κs = search needs
 
 cast-result : tie.Need-cast-result
-cast-result c = omega (arith, c .root-at .ensures, root-le (c .before .before .before .args .parents .now) (c .before .before .before .pre .2) (c .before .before .before .args .t .0))
+cast-result c = omega (arith, c .find .ensures, root-le (c .before .before .before .args .parents .now) (c .before .before .before .pre .2) (c .before .before .before .args .t .0))
 
 returns : tie.Need-returns
 returns c = search needs
 
 pub root-spec : {M : Type 1} → statement M
-root-spec = tie.close (tie.spec cast-root-at root-at-requires cast-result returns)
+root-spec = tie.close (tie.spec cast-find find-requires cast-result returns)

@@ -19,14 +19,14 @@ Inv-loop parents list c h i₀ i = (i ≤ c) × (any (λ (e : ℕ). eqb (rootOf 
 abbrev μ-loop : tie.MeasureT-loop
 μ-loop parents list c h i₀ i = c - i
 
-shared-slice-read-root-at : tie.Need-shared-slice-read-root-at Inv-loop μ-loop
-shared-slice-read-root-at c = search needs
+shared-slice-read-find : tie.Need-shared-slice-read-find Inv-loop μ-loop
+shared-slice-read-find c = search needs
 
-cast-root-at : tie.Need-cast-root-at Inv-loop μ-loop
-cast-root-at c = omega (arith, c .shared-slice-known3 .given (c .before .before .before .args .c))
+cast-find : tie.Need-cast-find Inv-loop μ-loop
+cast-find c = omega (arith, c .shared-slice-known3 .given (c .before .before .before .args .c))
 
-root-at-requires : tie.Need-root-at-requires Inv-loop μ-loop
-root-at-requires c κs =
+find-requires : tie.Need-find-requires Inv-loop μ-loop
+find-requires c κs =
     let s = c .before .before .before in
     let low = each-at (λ (e : ℕ). e < 64) (s .args .list .now) 0 (s .pre .2) (s .args .c) (s .pre .1) in
     (omega arith, s .pre .3)
@@ -34,14 +34,14 @@ root-at-requires c κs =
 loop-holds : tie.Need-loop-holds Inv-loop μ-loop
 loop-holds c = (omega arith, refl)
 
-shared-slice-read-root-at-2 : tie.Need-shared-slice-read-root-at-2 Inv-loop μ-loop
-shared-slice-read-root-at-2 c = omega arith
+shared-slice-read-find-2 : tie.Need-shared-slice-read-find-2 Inv-loop μ-loop
+shared-slice-read-find-2 c = omega arith
 
-cast-root-at-2 : tie.Need-cast-root-at-2 Inv-loop μ-loop
-cast-root-at-2 c = omega (arith, c .shared-slice-known4 .given (c .before .before .loop .i))
+cast-find-2 : tie.Need-cast-find-2 Inv-loop μ-loop
+cast-find-2 c = omega (arith, c .shared-slice-known4 .given (c .before .before .loop .i))
 
-root-at-requires-2 : tie.Need-root-at-requires-2 Inv-loop μ-loop
-root-at-requires-2 c κs =
+find-requires-2 : tie.Need-find-requires-2 Inv-loop μ-loop
+find-requires-2 c κs =
     let s = c .before .before .before .before .before .before .before in
     let low = each-at (λ (e : ℕ). e < 64) (s .args .list .now) 0 (s .pre .2) (c .before .before .loop .i) (omega arith) in
     (omega arith, s .pre .3)
@@ -49,7 +49,7 @@ root-at-requires-2 c κs =
 returns : tie.Need-returns Inv-loop μ-loop
 returns c =
     let before = c .before .before .before .before .before in
-    seen-here _ _ _ _ _ (c .before .root-at2 .ensures) (omega arith) _ (before .root-at .ensures) (c .if1 .taken) (c .before .before .before .loop-test .taken)
+    seen-here _ _ _ _ _ (c .before .find2 .ensures) (omega arith) _ (before .find .ensures) (c .if1 .taken) (c .before .before .before .loop-test .taken)
 
 add-i : tie.Need-add-i Inv-loop μ-loop
 add-i c = omega arith
@@ -60,12 +60,12 @@ loop-less c = omega arith
 loop-again : tie.Need-loop-again Inv-loop μ-loop
 loop-again c =
     let s = c .before .before .before .before .before .before .before .before .before in
-    (omega arith, seen-more _ (s .args .list .now) _ _ _ (c .before .root-at2 .ensures) (omega arith) (c .if1 .left) (c .before .before .before .before .loop .inv .1))
+    (omega arith, seen-more _ (s .args .list .now) _ _ _ (c .before .find2 .ensures) (omega arith) (c .if1 .left) (c .before .before .before .before .loop .inv .1))
 
 returns-2 : tie.Need-returns-2 Inv-loop μ-loop
 returns-2 c =
     let inv = c .before .loop .inv in
-    seen-none _ _ _ _ _ (c .before .before .root-at .ensures) (inv .0) (c .loop-test .left) (inv .1)
+    seen-none _ _ _ _ _ (c .before .before .find .ensures) (inv .0) (c .loop-test .left) (inv .1)
 
 pub seen-spec : {M : Type 1} → statement M
 seen-spec =
@@ -73,13 +73,13 @@ seen-spec =
     (tie.spec
     Inv-loop
     μ-loop
-    shared-slice-read-root-at
-    cast-root-at
-    root-at-requires
+    shared-slice-read-find
+    cast-find
+    find-requires
     loop-holds
-    shared-slice-read-root-at-2
-    cast-root-at-2
-    root-at-requires-2
+    shared-slice-read-find-2
+    cast-find-2
+    find-requires-2
     returns
     add-i
     loop-less

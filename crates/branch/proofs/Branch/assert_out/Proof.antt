@@ -1,5 +1,7 @@
-use mathlib.Core.Path.{_∙_}
+use mathlib.Core.Path.{sym, _∙_}
+use mathlib.Core.Bool.{true, false}
 use borrow.Author.Needs.{needs}
+use Rattle.branch.specs.Held.{answer}
 use Rattle.branch.proofs.Roots.{root-range}
 use Rattle.branch.proofs.Masks.{one-shl}
 use Rattle.branch.proofs.Answers.{out-asserted}
@@ -33,13 +35,17 @@ element-copy-out-has c =
 has-requires : tie.Need-has-requires
 has-requires c κs = search needs
 
-answered-requires : tie.Need-answered-requires
-answered-requires c κs = search needs
-
 returns : tie.Need-returns
+unfolding answer
 returns c =
     let s = c .before .before .before .before .before .before in
-    c .answered .ensures ∙ out-asserted (s .args .self) _ _ (s .args .a .0) (c .before .before .before .before .before .root .ensures) _ _ (one-shl (s .args .a .0) 8 (s .pre .1)) (c .before .has .ensures)
+    out-asserted (s .args .self) _ _ (s .args .a .0) (c .before .before .before .before .before .root .ensures) true _ (one-shl (s .args .a .0) 8 (s .pre .1)) (sym (c .if1 .taken) ∙ c .before .has .ensures)
+
+returns-2 : tie.Need-returns-2
+unfolding answer
+returns-2 c =
+    let s = c .before .before .before .before .before .before in
+    out-asserted (s .args .self) _ _ (s .args .a .0) (c .before .before .before .before .before .root .ensures) false _ (one-shl (s .args .a .0) 8 (s .pre .1)) (sym (c .if1 .left) ∙ c .before .has .ensures)
 
 pub assert-out-spec : {M : Type 1} → statement M
 assert-out-spec =
@@ -52,5 +58,5 @@ assert-out-spec =
     element-write-next
     element-copy-out-has
     has-requires
-    answered-requires
-    returns)
+    returns
+    returns-2)

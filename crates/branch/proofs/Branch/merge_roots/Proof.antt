@@ -1,6 +1,5 @@
-use mathlib.Core.Path.{_∙_}
 use borrow.Author.Needs.{needs}
-use Rattle.branch.proofs.Answers.{two-constants, no-two-constants}
+use Rattle.branch.proofs.Answers.{constants-conflict, masks-conflict, roots-merge}
 use Rattle.branch.proofs.Branch.merge_roots.Statement.{statement}
 use Rattle.branch.proofs.Branch.merge_roots.Tie as tie
 
@@ -31,21 +30,20 @@ element-write-next-2 c = search needs
 element-write-next-3 : tie.Need-element-write-next-3
 element-write-next-3 c = search needs
 
-answered-requires : tie.Need-answered-requires
-answered-requires c κs = search needs
-
 returns : tie.Need-returns
 returns c =
-    let s = c .before .before .before .before .before .before .before .before in
-    c .answered .ensures ∙ two-constants _ _ (s .pre .2) _ _ (s .pre .0) (s .pre .1) (c .before .if1 .taken)
-
-answered-requires-2 : tie.Need-answered-requires-2
-answered-requires-2 c κs = search needs
+    let s = c .before .before .before .before .before .before .before in
+    constants-conflict _ _ (s .pre .2) _ _ (s .pre .0) (s .pre .1) (c .if1 .taken)
 
 returns-2 : tie.Need-returns-2
 returns-2 c =
     let s = c .before .before .before .before .before .before .before .before in
-    c .answered2 .ensures ∙ no-two-constants _ _ (s .pre .2) _ _ (s .pre .0) (s .pre .1) (c .before .if1 .left)
+    masks-conflict _ _ (s .pre .2) _ _ (s .pre .0) (s .pre .1) (c .before .if1 .left) (c .if2 .taken)
+
+returns-3 : tie.Need-returns-3
+returns-3 c =
+    let s = c .before .before .before .before .before .before .before .before in
+    roots-merge _ _ (s .pre .2) _ _ (s .pre .0) (s .pre .1) (c .before .if1 .left) (c .if2 .left)
 
 pub merge-roots-spec : {M : Type 1} → statement M
 merge-roots-spec =
@@ -60,7 +58,6 @@ merge-roots-spec =
     element-write-next
     element-write-next-2
     element-write-next-3
-    answered-requires
     returns
-    answered-requires-2
-    returns-2)
+    returns-2
+    returns-3)

@@ -9,20 +9,20 @@ use Rattle.branch.proofs.Branch.root.Tie as tie
 cast-i : tie.Need-cast-i
 cast-i c = search needs
 
-slice-aggregate-root-at : tie.Need-slice-aggregate-root-at
-slice-aggregate-root-at c = search needs
+slice-aggregate-find : tie.Need-slice-aggregate-find
+slice-aggregate-find c = search needs
 
-root-at-requires : tie.Need-root-at-requires
-root-at-requires c κs = search needs
+find-requires : tie.Need-find-requires
+find-requires c κs = search needs
 
 cast-h : tie.Need-cast-h
 cast-h c =
     let s = c .before .before .before .before in
-    let l = root-range (held (s .args .self)) (s .pre .1) 64 (s .args .t .0) _ (s .pre .0) (c .root-at .ensures ∙ sym (root-is (held (s .args .self)) (s .args .t .0))) in
+    let l = root-range (held (s .args .self)) (s .pre .1) 64 (s .args .t .0) _ (s .pre .0) (c .find .ensures ∙ sym (root-is (held (s .args .self)) (s .args .t .0))) in
     omega arith
 
 returns : tie.Need-returns
-returns c = c .root-at .ensures ∙ sym (root-is _ _)
+returns c = c .find .ensures ∙ sym (root-is _ _)
 
 pub root-spec : {M : Type 1} → statement M
-root-spec = tie.close (tie.spec cast-i slice-aggregate-root-at root-at-requires cast-h returns)
+root-spec = tie.close (tie.spec cast-i slice-aggregate-find find-requires cast-h returns)
