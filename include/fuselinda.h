@@ -50,7 +50,7 @@ extern "C" {
 #define FUSELINDA_TRACE_MAX 40000    /* a trace buffer of this length is enough for every budget */
 #define FUSELINDA_FREE 32001         /* in the model, a class without a constant has this + its root */
 #define FUSELINDA_MODEL_MAX 1085     /* a model's bytes: 26 variables and 8 sets of 64 members at most */
-#define FUSELINDA_STACK 1100000      /* bytes of stack that are enough for every call */
+#define FUSELINDA_STACK 1200000      /* bytes of stack that are enough for every call */
 
 /*
  * Runs a problem. Writes the solved forms to `forms` and the steps to `trace`, each from the start; later
@@ -77,7 +77,7 @@ extern "C" {
  * - Nothing is kept, allocated or shared between calls: they may run in several threads at once.
  * - What the buffers held before does not matter to the answer.
  * - Stack: FUSELINDA_STACK follows from the proved depth of a run and the measured size of its frames. The
- *   deepest run tried took less than 0.8 MB. A check takes less than 8 KB.
+ *   deepest run tried took less than 0.9 MB. A check takes less than 8 KB.
  */
 uint64_t fuselinda_run(const uint8_t *problem, size_t problem_len, uint64_t budget,
                        uint8_t *forms, size_t forms_len, uint8_t *trace, size_t trace_len);
