@@ -5,7 +5,7 @@ use Prim.Native.Nat.{ℕ, _/_, _%_, _≤_, _<_}
 use native.Mathlib.Omega.{arith}
 use lib.ListN.{length}
 use borrow.Author.Tests.{eq-eqb, ne-eqb}
-use Rattle.calculus.specs.Calls.{Verdict, FORMS, FALSE, SPENT, NOROOM, Answer, refusal, ended, call, answerWord, verdictNumber}
+use Rattle.calculus.specs.Calls.{Verdict, FORMS, FALSE, SPENT, NOROOM, Answer, refusal, ended, answerWord, verdictNumber}
 use Rattle.calculus.proofs.AnswerLaws.{answers}
 use Rattle.capi.proofs.Contracted.{some-number}
 use Rattle.page.specs.Text.{decimal}

@@ -1,15 +1,14 @@
 -- The items of a form's line, one by one.
 use mathlib.Core.Path.{_≡_, refl, sym, ap, _∙_, subst}
-use mathlib.Core.List.{List, [], _∷_, _++_, map}
+use mathlib.Core.List.{List, [], _∷_, _++_}
 use Prim.Native.Nat.{ℕ, zero, suc, _+_, _*_, _-_, _<_, _≤_}
 use native.Mathlib.Omega.{arith}
-use native.Mathlib.Nat.{add-zero, zero-add, le-of-suc-le-suc}
+use native.Mathlib.Nat.{zero-add, le-of-suc-le-suc}
 use native.Mathlib.Numerals.{add-one}
-use native.Mathlib.Decide.{decLt}
 use lib.ListN.{length, getD, take, length-append, List·getD-append}
 use lib.Seq.{getD-append-add, take-suc, take-length}
 use lib.IntN.{ℤ, pos}
-use Rattle.calculus.specs.Lists.{upFrom, Each}
+use Rattle.calculus.specs.Lists.{Each}
 use Rattle.calculus.specs.Terms.{term, setVar}
 use Rattle.calculus.specs.Problem.{Problem, constantCount, setCount}
 use Rattle.calculus.specs.Encoding.{Handed}

@@ -4,23 +4,20 @@ use mathlib.Core.List.{List, [], _∷_, map}
 use Prim.Native.Nat.{ℕ, zero, suc, _+_, _*_, _-_, _/_, _<_, _≤_}
 use native.Mathlib.Omega.{arith}
 use native.Mathlib.Nat.{mul-zero, mul-suc, mul-comm, mul-le-mul-left, le-of-suc-le-suc}
-use lib.ListN.{length, getD, take, drop, replicate, length-map, length-replicate, List·getD-map, List·getD-eq-default}
+use lib.ListN.{length, getD, take, drop, replicate, length-map, length-replicate, List·getD-eq-default}
 use lib.Seq.{drop-drop}
-use Rattle.calculus.specs.Lists.{Each}
 use Rattle.calculus.specs.Problem.{Problem, termCount}
 use Rattle.calculus.specs.Reading.{Parsed, parsed, refused, read}
 use Rattle.calculus.specs.Forms.{listedForms}
-use Rattle.calculus.specs.Calls.{Verdict, Answer, refusal, ended, call, answerWord}
+use Rattle.calculus.specs.Calls.{Answer, refusal, ended, answerWord}
 use Rattle.calculus.proofs.AnswerLaws.{answers}
 use Rattle.calculus.proofs.CallLaws.{asks, kept}
 use Rattle.calculus.proofs.Models.{models}
-use Rattle.calculus.proofs.ModelsPass.{models-pass}
 use Rattle.calculus.proofs.Sequences.{each-at}
-use Rattle.calculus.proofs.Bools.{Each-imp}
 use Rattle.problem.specs.declared.Table.{Table}
 use Rattle.problem.specs.Table.{problemTable, tableIs, tableOf, Opened}
 use Rattle.capi.proofs.Contracted.{accepted}
-use Rattle.page.specs.Listing.{heading, formLine, programCall, formsOf, formRecords, linesOf, listing, Shows}
+use Rattle.page.specs.Listing.{heading, formLine, programCall, formsOf, formRecords, linesOf, listing}
 use Rattle.page.specs.Writing.{problemOf, problemIn, Shaped, answerIn, Ran, lineAt}
 use Rattle.page.proofs.Headings.{unpacks}
 

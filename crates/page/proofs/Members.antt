@@ -6,19 +6,18 @@ use Prim.Native.Nat.{ℕ, zero, suc, _+_, _/_, _%_, _≤_}
 use native.Mathlib.Omega.{arith}
 use native.Mathlib.Nat.{add-zero, zero-add}
 use native.Mathlib.Numerals.{add-one}
-use lib.ListN.{length, getD, take, length-append}
-use lib.Seq.{take-suc}
+use lib.ListN.{length, length-append}
 use lib.Dec.{ltb}
 use lib.IntN.{ℤ, pos, negsuc}
 use borrow.Author.Tests.{eq-eqb, ne-eqb}
 use Rattle.calculus.specs.Lists.{upFrom, keep, gather, Each}
-use Rattle.calculus.specs.Terms.{Term, SetVar, term, setVar, termsFrom}
+use Rattle.calculus.specs.Terms.{Term, term, setVar, termsFrom}
 use Rattle.calculus.specs.Problem.{Problem, termCount}
 use Rattle.calculus.specs.Forms.{modelNumber, model}
 use Rattle.output.proofs.Buffers.{put-nothing}
 use Rattle.page.specs.Text.{digits, decimal, number, separated, braces}
 use Rattle.page.specs.Writing.{Wrote, led, inside, memberText}
-use Rattle.page.proofs.Texts.{decimal-one, decimal-more, wrote-more}
+use Rattle.page.proofs.Texts.{wrote-more}
 
 pub wrote-nothing : (d : List ℕ) (at : ℕ) → Wrote d at [] at d
 wrote-nothing d at = record { after-is = sym (put-nothing d at); ends = sym (add-zero at) }

@@ -1,15 +1,14 @@
 -- What a listing shows: decimal digits read back as their number; no more than 4,097 bytes matter; members ascend, and each line's model satisfies the problem.
-use mathlib.Core.Path.{_≡_, refl, sym, ap, _∙_, subst}
+use mathlib.Core.Path.{_≡_, refl, sym, ap, _∙_}
 use mathlib.Core.List.{List, [], _∷_, _++_}
 use Prim.Native.Nat.{ℕ, zero, suc, _+_, _*_, _-_, _/_, _%_, _<_, _≤_}
 use native.Mathlib.Omega.{arith}
 use native.Mathlib.Decide.{decLt}
 use lib.ListN.{length, getD, take, replicate, length-take, List·getD-append}
 use lib.Seq.{take-all}
-use borrow.Author.Tests.{lt-ltb, le-ltb}
 use Rattle.calculus.specs.Lists.{Each}
-use Rattle.calculus.specs.Problem.{Problem, termCount, Rising, Satisfies}
-use Rattle.calculus.specs.Reading.{parsed, refused, read}
+use Rattle.calculus.specs.Problem.{termCount, Rising, Satisfies}
+use Rattle.calculus.specs.Reading.{refused, read}
 use Rattle.calculus.specs.Encoding.{Bytes, Handed, encodeHanded, WrittenAssignment}
 use Rattle.calculus.specs.Forms.{listedForms, handedModel}
 use Rattle.calculus.specs.Check.{assignmentOf}
@@ -20,8 +19,8 @@ use Rattle.calculus.proofs.Refuses.{refuses}
 use Rattle.calculus.proofs.ReadAssignment.{reads-assignment}
 use Rattle.calculus.proofs.Checking.{checks}
 use Rattle.calculus.proofs.ModelsPass.{models-pass}
-use Rattle.page.specs.Text.{digits, decimal, worth, ReadsBack}
-use Rattle.page.specs.Listing.{heading, programCall, formsOf, formRecords, listing, Cut, Shows}
+use Rattle.page.specs.Text.{decimal, worth, ReadsBack}
+use Rattle.page.specs.Listing.{heading, programCall, formRecords, listing, Cut, Shows}
 use Rattle.page.proofs.Members.{decimal-long}
 use Rattle.page.proofs.Texts.{decimal-one, decimal-more}
 

@@ -1,17 +1,14 @@
 -- Text written piece by piece, and how long numbers are as text.
-use mathlib.Core.Path.{_≡_, refl, sym, ap, _∙_}
-use mathlib.Core.Bool.{cond}
+use mathlib.Core.Path.{_≡_, refl, ap, _∙_}
 use mathlib.Core.List.{List, [], _∷_, _++_}
 use Prim.Native.Nat.{ℕ, zero, suc, _+_, _-_, _/_, _%_, _^_, _≤_, _<_}
 use native.Mathlib.Nat.{pow-zero, pow-suc}
 use native.Mathlib.Omega.{arith}
 use native.Mathlib.Decide.{decLt}
 use lib.ListN.{length, length-append}
-use lib.IntN.{ℤ, pos, negsuc}
 use borrow.Author.Tests.{lt-ltb, le-ltb}
 use Rattle.calculus.specs.Reading.{signed}
 use Rattle.calculus.specs.Calls.{over}
-use Rattle.output.specs.State.{putAt}
 use Rattle.output.proofs.Buffers.{put-length, put-first, put-after}
 use Rattle.page.specs.Text.{digits, decimal, number}
 use Rattle.page.specs.Writing.{Wrote}

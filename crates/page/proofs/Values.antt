@@ -1,22 +1,22 @@
 -- What stands in a problem's bytes and in a listed record.
-use mathlib.Core.Path.{_≡_, refl, sym, ap, _∙_, subst}
-use mathlib.Core.Bool.{Bool, true, false, _&&_}
+use mathlib.Core.Path.{_≡_, refl, sym, ap, _∙_}
+use mathlib.Core.Bool.{false}
 use mathlib.Core.List.{List, [], _∷_, _++_}
-use Prim.Native.Nat.{ℕ, zero, suc, _+_, _*_, _<_, _≤_}
+use Prim.Native.Nat.{ℕ, suc, _+_, _*_, _<_, _≤_}
 use native.Mathlib.Omega.{arith}
 use lib.ListN.{length, getD, length-append, List·getD-append}
 use lib.Seq.{getD-append-add}
-use lib.IntN.{ℤ, pos}
+use lib.IntN.{pos}
 use borrow.Author.Tests.{lt-ltb, ne-eqb, eq-eqb}
 use Rattle.calculus.specs.Lists.{bit}
-use Rattle.calculus.specs.Terms.{Term, term}
+use Rattle.calculus.specs.Terms.{term}
 use Rattle.calculus.specs.Problem.{Problem, constantCount, termCount, setCount}
 use Rattle.calculus.specs.Reading.{Parsed, parsed, words, signed, read}
 use Rattle.calculus.specs.Forms.{modelNumber}
 use Rattle.calculus.proofs.Words.{words-length}
 use Rattle.calculus.proofs.Parsers.{one, counted, given, answered, then}
 use Rattle.calculus.proofs.Sections.{First}
-use Rattle.calculus.proofs.ReadValid.{first-question, read-first, read-valid}
+use Rattle.calculus.proofs.ReadValid.{first-question, read-first}
 use Rattle.calculus.proofs.ModelValues.{any-default}
 use Rattle.problem.specs.declared.Table.{Table}
 use Rattle.problem.specs.Table.{problemTable, Opened, constantOf, valuesOf}

@@ -1,5 +1,4 @@
 use mathlib.Core.Path.{sym}
-use Prim.Native.Nat.{_+_}
 use native.Mathlib.Omega.{arith}
 use Rattle.page.proofs.Texts.{wrote-length, wrote-more}
 use Rattle.page.proofs.Values.{known}

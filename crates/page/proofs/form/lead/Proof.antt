@@ -1,4 +1,3 @@
-use mathlib.Core.Path.{sym}
 use native.Mathlib.Omega.{arith}
 use Rattle.page.proofs.Members.{wrote-nothing, led-none, led-one}
 use borrow.Author.Needs.{needs}

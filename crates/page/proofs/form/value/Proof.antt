@@ -1,4 +1,3 @@
-use mathlib.Core.Path.{_∙_}
 use Prim.Native.Nat.{_*_}
 use native.Mathlib.Omega.{arith}
 use Rattle.page.proofs.Values.{root-there, root-low, constant-value, constant-there, free-value, known}
