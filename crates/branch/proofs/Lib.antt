@@ -1,8 +1,7 @@
 pub mod Masks
 pub mod Counting
 pub mod Roots
-pub mod Answers
+pub mod Outcomes
 pub mod Laws
 pub mod Restricting
 pub mod Recording
-pub mod Pairs

@@ -105,7 +105,7 @@ fn apart(a: bool, b: bool, c: bool, d: bool) -> bool
 }
 
 // Whether an entry is in the class of root h.
-fn has_root(list: &[u8], parents: &[u8], h: usize) -> bool
+pub fn has_root(list: &[u8], parents: &[u8], h: usize) -> bool
     requires { ⌜ Each (λ e. e < length (now parents)) (now list) × Falls (now parents) ⌝ }
     ensures { λ r. ⌜ r ≡ any (λ e. eqb (rootAt (branchOf (now (parents .entry)) [] []) (e .index)) h) (map term (now (list .entry))) ⌝ }
 {

@@ -10,6 +10,7 @@ use Rattle.calculus.specs.Meaning.{Constraint, member, nonmember, same, differe
 use Rattle.calculus.specs.Problem.{Problem, constantCount, nameable, termCount, setCount}
 use Rattle.calculus.specs.Reading.{Parsed, parsed, refused, read}
 use Rattle.problem.specs.declared.Table.{Table}
+use Rattle.problem.specs.declared.Totals.{Totals}
 use Rattle.problem.specs.Sections.{startsFrom, witnessesFrom, filled}
 
 -- the bytes before the constraints: four count bytes, two for each constant, a letter for each variable and set
@@ -47,6 +48,16 @@ tableOf bs = tableIs (read bs)
 pub record Opened (bs : List ℕ) (tab : Table) : Type 0 where
   pub made : tab ≡ tableOf bs
   pub accepted : tab .refusal ≡ 0
+
+-- a table from its parts
+abbrev pub tableBy : Totals → (offsets witnesses : List ℕ) → Table
+tableBy t offsets witnesses = record { refusal = t .refusal; constants = t .constants; variables = t .variables; sets = t .sets; constraints = t .constraints; terms = t .terms; offsets = offsets; witnesses = witnesses }
+
+-- they are the parts of the table of these bytes, which are a problem
+pub record Tabled (bs : List ℕ) (t : Totals) (offsets witnesses : List ℕ) : Type 0 where
+  pub opened : Opened bs (tableBy t offsets witnesses)
+  pub sized : length offsets ≡ 48
+  pub sized-witnesses : length witnesses ≡ 48
 
 -- constraint i of a problem is there, and its kind byte stands at an offset
 pub record Stands (bs : List ℕ) (i at : ℕ) : Type 0 where

@@ -28,6 +28,16 @@ pub struct Table {
     pub witnesses: [u8; 48],
 }
 
+// A table without its two lists.
+pub struct Totals {
+    pub refusal: u8,
+    pub constants: u8,
+    pub variables: u8,
+    pub sets: u8,
+    pub constraints: u8,
+    pub terms: u8,
+}
+
 // Refused by question n.
 fn refused(n: u8) -> Table
     ensures { λ r. ⌜ r ≡ refusedTable n ⌝ }

@@ -13,18 +13,16 @@ use Rattle.calculus.specs.Terms.{Term, term}
 use Rattle.calculus.specs.Relations.{equal, union, disjoint, subset, intersection}
 use Rattle.calculus.specs.Meaning as calculus
 use Rattle.calculus.specs.Branch.{Branch}
-use Rattle.calculus.specs.Invariants.{Falls}
 use Rattle.calculus.specs.Reading.{read}
 use Rattle.calculus.proofs.Bools.{map-Each}
 use Rattle.calculus.proofs.RuleLaws.{ConstraintIn}
 use Rattle.problem.specs.declared.Table.{Table}
-use Rattle.problem.specs.Table.{Opened, Stands, problemTable, constraintsOf, constraintOf, kindOf, noConstraint}
-use Rattle.problem.proofs.Access.{opened, opened-sizes, constraint-count}
+use Rattle.problem.specs.Table.{Opened, Stands, constraintsOf, constraintOf, kindOf, noConstraint}
 use Rattle.places.specs.Places.{propagationSpan, splitSpan, spanOf, InSpan, RuleOf, entriesOf, moveAt, firstAt}
 use Rattle.places.proofs.Offered.{position-of}
 use Rattle.constraints.specs.declared.Constraint.{Constraint}
 use Rattle.constraints.specs.Decoded.{decoded, Handled, Unpacked}
-use Rattle.constraints.proofs.Decoding.{kind-here}
+use Rattle.constraints.proofs.Decoding.{kind-here, stands-there, in-range}
 use Rattle.guards.specs.declared.Guard.{Guard}
 use Rattle.guards.specs.Guarded.{passes, Guards, Standing}
 use Rattle.search.specs.declared.Place.{Place}
@@ -55,7 +53,7 @@ from-1 : (s : ℕ × ℕ) (j : ℕ) → Numbered s → InSpan s j → ¬ (j ≡ 
 from-1 s j (inl l) h e = omega (arith, h .0)
 from-1 s j (inr z) h e = omega (arith, h .1)
 
-rule-from-1 : (split : Bool) (l : calculus.Constraint) (j : ℕ) → InSpan (spanOf split l) j → ¬ (j ≡ 0)
+pub rule-from-1 : (split : Bool) (l : calculus.Constraint) (j : ℕ) → InSpan (spanOf split l) j → ¬ (j ≡ 0)
 rule-from-1 false l j h = from-1 (propagationSpan l) j (numbered l .0) h
 rule-from-1 true l j h = from-1 (splitSpan l) j (numbered l .1) h
 
@@ -97,6 +95,10 @@ standing-64 n parents insides outsides s = record { falls = s .falls; sized = s 
 pub record AtConstraint (split : Bool) (n : ℕ) (ls : List calculus.Constraint) (b : Branch) (i : ℕ) : Type 0 where
   pub standing : Standing n (b .parents) (b .insides) (b .outsides)
   pub left : firstPlace split n ls b ≡ constraintsFrom split n ls b i
+
+-- at the beginning
+pub search-start : (split : Bool) (n : ℕ) (ls : List calculus.Constraint) (b : Branch) → Standing n (b .parents) (b .insides) (b .outsides) → AtConstraint split n ls b 0
+search-start split n ls b st = record { standing = st; left = constraints-begin split n ls b }
 
 -- before rule j of constraint i, whose rules end at end
 pub record AtRule (split : Bool) (n : ℕ) (ls : List calculus.Constraint) (b : Branch) (i j end : ℕ) : Type 0 where
@@ -167,13 +169,10 @@ module _ (split : Bool) (n : ℕ) (ls : List calculus.Constraint) (b : Branch) (
 
 -- ---- the code's values put the search there
 
--- at the beginning
-pub search-start : (split : Bool) (bs : List ℕ) (tab : Table) → Opened bs tab → (b : Branch) → Falls (b .parents) → length (b .parents) ≡ 64 → length (b .insides) ≡ 64 → length (b .outsides) ≡ 64
-    → AtConstraint split (tab .terms) (constraintsOf (read bs)) b 0
-search-start split bs tab o b f p i u = record {
-  standing = record { falls = f; sized = p; sized-in = i; sized-out = u; few = opened-sizes bs tab o .2 };
-  left = constraints-begin split (tab .terms) (constraintsOf (read bs)) b;
-}
+-- the constraints are in range
+pub constraint-in : (bs : List ℕ) (tab : Table) → Opened bs tab → (i : ℕ) → i < tab .constraints → ConstraintIn 64 8 (getD (constraintsOf (read bs)) i noConstraint)
+unfolding constraintOf
+constraint-in bs tab o i h = in-range bs i (getD (tab .offsets) i 0) (stands-there bs tab i o h .1)
 
 -- the kind byte is that of constraint i
 pub kind-is : (bs : List ℕ) (i at : ℕ) → Stands bs i at → kindOf (getD (constraintsOf (read bs)) i noConstraint) ≡ getD bs at 0

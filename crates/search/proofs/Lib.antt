@@ -1,3 +1,4 @@
 pub mod Finding
+pub mod Near
 pub mod Order
 pub mod Skipping

@@ -1,5 +1,4 @@
 // The first place where a rule applies.
-use branch::Branch;
 use constraints::decode_at;
 use constraints::list_at;
 use constraints::third;
@@ -7,13 +6,17 @@ use guards::applies;
 use guards::guard_at;
 use guards::idle;
 use guards::rules;
-use problem::Table;
+use near::first_near;
+use problem::Totals;
 ghost use mathlib.Core.Path.{_≡_};
+ghost use mathlib.Core.Bool.{true, false};
+ghost use Prim.Native.Nat.{_≤_, _<_};
 ghost use Rattle.calculus.specs.Lists.{upFrom};
 ghost use Rattle.calculus.specs.Reading.{read};
-ghost use Rattle.calculus.specs.Invariants.{Falls};
-ghost use Rattle.problem.specs.Table.{Opened, constraintsOf};
-ghost use Rattle.branch.specs.Held.{held};
+ghost use Rattle.problem.specs.Table.{Tabled, constraintsOf};
+ghost use Rattle.branch.specs.Held.{rootOf};
+ghost use Rattle.guards.specs.Guarded.{Standing, branchOf};
+ghost use Rattle.calm.specs.Calm.{Calm};
 ghost use Rattle.search.specs.First.{Finds};
 
 // A place: the constraint's number, the rule, and the root, for rule 19 the number of the entry. Rule 0: there is none.
@@ -23,24 +26,54 @@ pub struct Place {
     pub position: u8,
 }
 
-// The first place where a propagation rule applies, or a split. The numbers are 0 to 63.
-pub fn search<'a>(problem: &'a [u8], numbers: &'a [u8], tab: Table, b: Branch, split: bool) -> Place
-    requires { ⌜ Opened (now problem) tab × (now numbers ≡ upFrom 0 64) × Falls (b .parents) ⌝ }
-    ensures { λ r. ⌜ Finds split (tab .terms) (constraintsOf (read (now (problem .entry)))) (held b) r ⌝ }
+// The first place where a propagation rule applies, or a split. Of the constraints before number from, none has anything to do but where the root is concerned. The numbers are 0 to 63.
+pub fn search<'a>(
+    problem: &'a [u8],
+    numbers: &'a [u8],
+    totals: Totals,
+    offsets: &'a [u16],
+    witnesses: &'a [u8],
+    parents: &'a [u8],
+    insides: &'a [u8],
+    outsides: &'a [u8],
+    split: bool,
+    from: u8,
+    root: u8,
+) -> Place
+    requires { ⌜ Tabled (now problem) totals (now offsets) (now witnesses) × (now numbers ≡ upFrom 0 64) × Standing (totals .terms) (now parents) (now insides) (now outsides) × (from ≤ totals .constraints) × (root < 64) × (0 < from → (root < totals .terms) × (rootOf (now parents) root ≡ root)) × (split ≡ true → from ≡ 0) × Calm false (totals .terms) (constraintsOf (read (now problem))) (branchOf (now parents) (now insides) (now outsides)) from root ⌝ }
+    ensures { λ r. ⌜ Finds split (totals .terms) (constraintsOf (read (now (problem .entry)))) (branchOf (now (parents .entry)) (now (insides .entry)) (now (outsides .entry))) r ⌝ }
 {
-    let parents = b.parents;
-    let insides = b.insides;
-    let outsides = b.outsides;
-    let offsets = tab.offsets;
-    let witnesses = tab.witnesses;
-    let terms = tab.terms;
-    let count = tab.constraints;
+    let terms = totals.terms;
+    let count = totals.constraints;
+    let close = first_near(
+        problem,
+        numbers,
+        totals,
+        offsets,
+        witnesses,
+        parents,
+        insides,
+        outsides,
+        from,
+        root,
+    );
+    let found = close.rule;
+    if found != 0 {
+        if found != 19 {
+            return Place {
+                constraint: close.constraint,
+                rule: found,
+                position: root,
+            };
+        }
+    }
+    let start = close.constraint;
     let mut place = Place {
         constraint: 0,
         rule: 0,
         position: 0,
     };
-    'search: for i in 0..count {
+    'search: for i in start..count {
         let n = i as usize;
         let at = offsets[n] as usize;
         let kind = problem[at];
@@ -51,14 +84,14 @@ pub fn search<'a>(problem: &'a [u8], numbers: &'a [u8], tab: Table, b: Branch, s
             let q = problem[at + 2];
             let s = third(problem, at);
             let w = witnesses[n];
-            if !idle(&parents, &insides, &outsides, terms, kind, p, q, s, w, span) {
+            if !idle(parents, insides, outsides, terms, kind, p, q, s, w, span) {
                 let l = decode_at(problem, n, at, w);
                 let entries = list_at(problem, numbers, n, at, l);
                 for j in span.first..end {
-                    let guard = guard_at(&parents, &insides, &outsides, entries, terms, l, j);
+                    let guard = guard_at(parents, insides, outsides, entries, terms, l, j);
                     let last = guard.end;
                     for p in guard.from..last {
-                        if applies(&parents, &insides, &outsides, entries, guard, j, p) {
+                        if applies(parents, insides, outsides, entries, guard, j, p) {
                             place = Place {
                                 constraint: i,
                                 rule: j,

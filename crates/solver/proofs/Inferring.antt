@@ -1,12 +1,12 @@
 -- The children of a step taken at a place: each is sound and less remains in it; and a propagation step has one or none.
 use mathlib.Core.Path.{_≡_, refl, sym, ap, _∙_, subst}
-use mathlib.Core.Bool.{Bool, true, false}
+use mathlib.Core.Bool.{Bool, false}
 use mathlib.Core.Option.{Option, none, some}
 use mathlib.Core.List.{List, [], _∷_, map}
-use Prim.Native.Nat.{ℕ, zero, suc, _<_, _≤_}
+use Prim.Native.Nat.{ℕ, _<_}
 use native.Mathlib.Omega.{arith}
 use lib.ListN.{length, length-map}
-use Rattle.calculus.specs.Lists.{upFrom, picked, Each, Some, here, there}
+use Rattle.calculus.specs.Lists.{upFrom, picked, Some, here, there}
 use Rattle.calculus.specs.Terms.{term}
 use Rattle.calculus.specs.Meaning.{Constraint}
 use Rattle.calculus.specs.Branch as calculus
@@ -20,7 +20,7 @@ use Rattle.branch.specs.declared.Branch.{Branch}
 use Rattle.branch.specs.Held.{held, restrict, Good}
 use Rattle.constraints.specs.Decoded.{decoded, Unpacked}
 use Rattle.constraints.specs.declared.Constraint as code
-use Rattle.places.specs.Places.{InSpan, propagationSpan, moveAt, entriesOf}
+use Rattle.places.specs.Places.{InSpan, propagationSpan, moveAt}
 use Rattle.places.specs.Alternatives.{slotsOf, childOf}
 use Rattle.places.proofs.Picking.{picked-among}
 use Rattle.places.proofs.Slots.{children-slots, child-fit, propagation-slots}
@@ -65,6 +65,9 @@ module _ (bs : List ℕ) (tab : Table) (o : Opened bs tab) (b : Branch) (good : 
   pub single : slotsOf (decoded (map term es) l) (p .rule) ≡ 1
   single = propagation-slots (decoded (map term es) l) (p .rule) (subst (λ (x : Constraint). InSpan (propagationSpan x) (p .rule)) (here-is bs tab o b good false p w es l u) (w .of-rule))
 
+  pub first-slot : 0 < slotsOf (decoded (map term es) l) (p .rule)
+  first-slot = omega (arith, single)
+
   abbrev only : Option calculus.Branch
   only = childOf (constants bs tab) (held b) (decoded (map term es) l) (p .rule) (p .position) 0
 
@@ -81,5 +84,4 @@ module _ (bs : List ℕ) (tab : Table) (o : Opened bs tab) (b : Branch) (good : 
 
   pub goes-good : (c : Branch) → only ≡ some (held c) → Good (tab .constants) c × (remaining bs tab c < remaining bs tab b)
   goes-good c e =
-      let lt : 0 < slotsOf (decoded (map term es) l) (p .rule) = omega (arith, single) in
-      (child-good bs tab o b good false p w es l u 0 lt c e, child-less bs tab o b good false p w es l u 0 lt c e h 1 (number 1 (rw (e, picked) refl)))
+      (child-good bs tab o b good false p w es l u 0 first-slot c e, child-less bs tab o b good false p w es l u 0 first-slot c e h 1 (number 1 (rw (e, picked) refl)))

@@ -1,5 +1,5 @@
 -- What is done next in a branch, by the places that the two searches find.
-use mathlib.Core.Path.{_≡_, refl, sym, ap, _∙_}
+use mathlib.Core.Path.{_≡_, ap, _∙_}
 use mathlib.Core.Bool.{Bool, true, false}
 use mathlib.Core.Option.{Option, none, some}
 use mathlib.Core.List.{List, [], _∷_, map}
@@ -10,7 +10,7 @@ use Rattle.calculus.specs.Terms.{Term}
 use Rattle.calculus.specs.Relations.{applies}
 use Rattle.calculus.specs.Meaning.{Constraint}
 use Rattle.calculus.specs.Branch.{Branch, known}
-use Rattle.calculus.specs.Search.{propagations, splits, rootsOf, Candidate, candidates, Next, solved, step, children, taken, next}
+use Rattle.calculus.specs.Search.{propagations, splits, rootsOf, Candidate, candidates, solved, step, children, taken, next}
 use Rattle.calculus.specs.Invariants.{Falls}
 use Rattle.calculus.proofs.SearchLaws.{first-left, first-none-app}
 use Rattle.calculus.proofs.RuleLaws.{ConstraintIn}

@@ -1,13 +1,12 @@
 -- Working the start of an accepted problem is the calculus's run.
-use mathlib.Core.Path.{_≡_, refl, sym, ap, _∙_, subst}
+use mathlib.Core.Path.{_≡_, sym, ap, _∙_, subst}
 use mathlib.Core.List.{List}
 use Prim.Native.Nat.{ℕ, suc, _*_, _≤_}
 use native.Mathlib.Omega.{arith}
 use lib.ListN.{length}
 use Rattle.calculus.specs.Branch as calculus
-use Rattle.calculus.specs.Log.{log}
-use Rattle.calculus.specs.Problem.{Problem, termCount, setCount, constantTerms}
-use Rattle.calculus.specs.Reading.{Parsed, parsed, read}
+use Rattle.calculus.specs.Problem.{Problem}
+use Rattle.calculus.specs.Reading.{parsed}
 use Rattle.calculus.specs.Invariants.{measure}
 use Rattle.calculus.specs.Run.{run}
 use Rattle.calculus.proofs.Start.{start-measure}
@@ -19,7 +18,7 @@ use Rattle.branch.specs.Held.{held, restrict}
 use Rattle.branch.proofs.Restricting.{restrict-start}
 use Rattle.output.specs.State.{State, begun, left, Fine}
 use Rattle.output.proofs.Tallied.{play-tally, log-shaped}
-use Rattle.solver.specs.Outcomes.{constants, constraints, shown, remaining, events, Outcome, Runs}
+use Rattle.solver.specs.Outcomes.{constants, constraints, shown, remaining, events, Outcome, Begins, Runs}
 use Rattle.solver.proofs.Opening.{terms-few}
 
 module _ (bs : List ℕ) (tab : Table) (o : Opened bs tab) (budget : ℕ) (b : Branch) (e : held b ≡ calculus.start 64) (F T : List ℕ) where
@@ -44,3 +43,7 @@ module _ (bs : List ℕ) (tab : Table) (o : Opened bs tab) (budget : ℕ) (b : B
 
 pub begun-fine : (n budget : ℕ) (F T : List ℕ) → budget ≤ 10000 → 4 * budget ≤ length T → Fine n budget (begun F T)
 begun-fine n budget F T h l = record { within = omega arith; few = h; traced = l; written = omega arith }
+
+-- at the start the search begins with the first constraint
+pub begins-first : (bs : List ℕ) (tab : Table) (b : Branch) → Begins bs tab b 0 0
+begins-first bs tab b = record { in-problem = omega arith; low = omega arith; rooted = λ l. absurd (omega arith); calm = λ i l. absurd (omega arith) }

@@ -1,39 +1,32 @@
 -- A step at the place that a search found, with its constraint decoded.
-use mathlib.Core.Path.{_≡_, refl, sym, ap, ap₂, _∙_, subst}
+use mathlib.Core.Path.{_≡_, refl, sym, ap, _∙_, subst}
 use mathlib.Core.Logic.{inl, inr}
 use mathlib.Core.Bool.{Bool, true, false}
-use mathlib.Core.Option.{Option, none, some}
+use mathlib.Core.Option.{some}
 use mathlib.Core.List.{List, [], _∷_, map}
-use Prim.Native.Nat.{ℕ, zero, suc, _<_, _≤_}
+use Prim.Native.Nat.{ℕ, _<_}
 use native.Mathlib.Omega.{arith}
 use lib.ListN.{length, getD, length-map}
 use borrow.Author.Tests.{ne-eqb}
-use Rattle.calculus.specs.Lists.{upFrom, picked, Each}
+use Rattle.calculus.specs.Lists.{upFrom, picked}
 use Rattle.calculus.specs.Terms.{term}
 use Rattle.calculus.specs.Meaning.{Constraint}
 use Rattle.calculus.specs.Branch as calculus
-use Rattle.calculus.specs.Search.{Candidate, step, next, children}
-use Rattle.calculus.specs.Invariants.{WellFormed, measure}
-use Rattle.calculus.proofs.RuleLaws.{ConstraintIn}
-use Rattle.calculus.proofs.Stepping.{step-fit}
-use Rattle.calculus.proofs.WorkOrder.{some-each}
+use Rattle.calculus.specs.Search.{step, next, children}
 use Rattle.problem.specs.declared.Table.{Table}
 use Rattle.problem.specs.Table.{Opened, constraintOf, noConstraint}
 use Rattle.branch.specs.declared.Branch.{Branch}
-use Rattle.branch.specs.declared.Asserted.{Asserted}
-use Rattle.branch.specs.Held.{held, restrict, answer, Good}
-use Rattle.branch.proofs.Laws.{answered, refusing}
+use Rattle.branch.specs.Held.{held, restrict, Good}
 use Rattle.constraints.specs.Decoded.{decoded, Unpacked}
 use Rattle.constraints.specs.declared.Constraint as code
 use Rattle.places.specs.Places.{RuleOf, InSpan, spanOf, entriesOf, moveAt}
 use Rattle.places.specs.Alternatives.{slotsOf, childOf}
-use Rattle.places.proofs.Slots.{children-slots, child-fit, propagation-slots, move-rule}
+use Rattle.places.proofs.Slots.{children-slots, move-rule}
 use Rattle.search.specs.declared.Place.{Place}
-use Rattle.search.specs.First.{firstPlace, candidateAt, found, Within, Finds}
-use Rattle.solver.specs.Outcomes.{constants, constraints, shown, remaining, splitRecord, Settled}
+use Rattle.search.specs.First.{firstPlace, candidateAt, found, Within}
+use Rattle.solver.specs.Outcomes.{constants, constraints, shown, splitRecord, Settled}
 use Rattle.solver.proofs.Opening.{in-range, among}
 use Rattle.solver.proofs.NextLaws.{propagation-next, split-next}
-use Rattle.solver.proofs.Working.{fit}
 
 -- a place with a rule is found
 pub found-some : (ls : List Constraint) (b : calculus.Branch) (p : Place) → ¬ (p .rule ≡ 0) → found ls b p ≡ some (candidateAt ls b p)

@@ -1,10 +1,9 @@
 -- The two workers: what a branch comes to, by its propagation and its split, and what the children of a split come to.
 use mathlib.Core.Path.{_≡_, refl, sym, ap, _∙_, subst}
-use mathlib.Core.Logic.{inr}
 use mathlib.Core.Bool.{Bool, true, false}
-use mathlib.Core.Option.{Option, none, some}
-use mathlib.Core.List.{List, [], _∷_, map}
-use Prim.Native.Nat.{ℕ, zero, suc, _+_, _*_, _-_, _<_, _≤_}
+use mathlib.Core.Option.{some}
+use mathlib.Core.List.{List, [], map}
+use Prim.Native.Nat.{ℕ, _+_, _*_, _-_, _<_, _≤_}
 use native.Mathlib.Omega.{arith}
 use native.Mathlib.Numerals.{add-one}
 use lib.ListN.{length}
@@ -14,17 +13,17 @@ use Rattle.calculus.specs.Lists.{upFrom, picked}
 use Rattle.calculus.specs.Terms.{term}
 use Rattle.calculus.specs.Meaning.{Constraint}
 use Rattle.calculus.specs.Branch as calculus
-use Rattle.calculus.specs.Search.{solved, step, next}
+use Rattle.calculus.specs.Search.{step, next}
 use Rattle.calculus.specs.Forms.{recordOf}
 use Rattle.problem.specs.declared.Table.{Table}
 use Rattle.problem.specs.Table.{Opened}
 use Rattle.branch.specs.declared.Branch.{Branch}
 use Rattle.branch.specs.declared.Asserted.{Asserted}
-use Rattle.branch.specs.Held.{held, restrict, answer, Good}
+use Rattle.branch.specs.Held.{held, restrict, outcome, Good}
 use Rattle.branch.proofs.Laws.{answered, refusing}
 use Rattle.constraints.specs.Decoded.{decoded, Unpacked}
 use Rattle.constraints.specs.declared.Constraint as code
-use Rattle.places.specs.Places.{RuleOf, moveAt}
+use Rattle.places.specs.Places.{RuleOf}
 use Rattle.places.specs.Alternatives.{slotsOf, childOf}
 use Rattle.places.proofs.Slots.{children-slots, move-rule}
 use Rattle.search.specs.declared.Place.{Place}
@@ -67,6 +66,10 @@ outcome-fine bs tab budget b s t f q =
 module _ (bs : List ℕ) (tab : Table) (o : Opened bs tab) (b : Branch) (good : Good (tab .constants) b) (p : Place) where
   pub splitting : Settled bs tab b → Finds true (tab .terms) (constraints bs tab) (held b) p → ¬ (p .rule ≡ 0) → Splits bs tab b p
   splitting e f n = record { settled = e; first-is = f .first-is; some-rule = n; within = f .within n }
+
+  -- and the other way round
+  pub split-finds : Splits bs tab b p → Finds true (tab .terms) (constraints bs tab) (held b) p
+  split-finds w = record { first-is = w .first-is; within = λ _. w .within }
 
   module _ (w : Splits bs tab b p) where
     pub split-step : next (tab .terms) (constants bs tab) (constraints bs tab) (shown bs tab b) ≡ step (splitRecord bs tab b p) (kept bs tab b (placed bs tab p) (p .rule) (p .position) 0)
@@ -132,6 +135,10 @@ module _ (bs : List ℕ) (tab : Table) (o : Opened bs tab) (budget : ℕ) (b : B
 
 -- ---- the children of a split
 
+-- a number below their count
+pub slot-there : (k n m : ℕ) → k < n → n ≡ m → k < m
+slot-there k n m l e = omega (arith, e)
+
 -- what the loop keeps at child k, from counts c and buffers F, T to where it is now
 pub record Worked (bs : List ℕ) (tab : Table) (budget : ℕ) (b : Branch) (p : Place) (es : List ℕ) (l : code.Constraint) (c : Counts) (F T : List ℕ) (k : ℕ) (d : Counts) (G U : List ℕ) : Type 0 where
   pub leads : (t : State) → ChildrenOutcome bs tab budget b (decoded (map term es) l) (p .rule) (p .position) k (state d G U) t → SplitOutcome bs tab budget b p (state c F T) t
@@ -154,19 +161,18 @@ module _ (bs : List ℕ) (tab : Table) (o : Opened bs tab) (budget : ℕ) (b : B
     pub worked-done : slotsOf this (p .rule) ≤ k → SplitOutcome bs tab budget b p (state c F T) (state d G U)
     worked-done h = v .leads (state d G U) (children-done bs tab budget b this (p .rule) (p .position) k (state d G U) h)
 
-    module _ (lt : k < slotsOf this (p .rule)) (r : Asserted) (er : r ≡ answer b (childOf (constants bs tab) (held b) this (p .rule) (p .position) k)) where
+    module _ (lt : k < slotsOf this (p .rule)) (r : Asserted) (er : childOf (constants bs tab) (held b) this (p .rule) (p .position) k ≡ outcome r) where
       pub worked-skip : r .conflict ≡ true → Worked bs tab budget b p es l c F T (k + 1) d G U
       worked-skip q = rw (add-one k) record {
         leads = λ t x. v .leads t (children-skip bs tab budget b this (p .rule) (p .position) k (state d G U) lt
-            (refusing b (childOf (constants bs tab) (held b) this (p .rule) (p .position) k) (ap (λ (y : Asserted). y .conflict) (sym er) ∙ q)) t x);
+            (refusing (childOf (constants bs tab) (held b) this (p .rule) (p .position) k) r er q) t x);
         fine = v .fine;
         on = v .on;
       }
 
       module _ (q : r .conflict ≡ false) where
         there : childOf (constants bs tab) (held b) this (p .rule) (p .position) k ≡ some (held (r .branch))
-        there = subst (λ (x : Asserted). childOf (constants bs tab) (held b) this (p .rule) (p .position) k ≡ some (held (x .branch))) (sym er)
-            (answered b (childOf (constants bs tab) (held b) this (p .rule) (p .position) k) (ap (λ (x : Asserted). x .conflict) (sym er) ∙ q))
+        there = answered (childOf (constants bs tab) (held b) this (p .rule) (p .position) k) r er q
 
         pub worked-good : Good (tab .constants) (r .branch)
         worked-good = child-good bs tab o b good true p (w .within) es l u k lt (r .branch) there

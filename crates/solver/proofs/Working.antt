@@ -1,19 +1,17 @@
 -- What working a branch comes to, by what is done next in it.
-use mathlib.Core.Path.{_≡_, refl, sym, ap, _∙_, subst}
+use mathlib.Core.Path.{_≡_, refl, sym, ap, _∙_}
 use mathlib.Core.Option.{Option, none, some}
-use mathlib.Core.List.{List, [], _∷_, _++_, map, append-nil}
-use Prim.Native.Nat.{ℕ, zero, suc, _+_, _-_, _<_, _≤_}
+use mathlib.Core.List.{List, [], _∷_, map, append-nil}
+use Prim.Native.Nat.{ℕ, zero, suc, _-_, _<_, _≤_}
 use native.Mathlib.Omega.{arith}
-use native.Mathlib.Nat.{le-of-suc-le-suc}
-use lib.ListN.{length}
-use borrow.Author.Tests.{eq-eqb, ne-eqb}
-use Rattle.calculus.specs.Lists.{upFrom, gather, picked, Each}
+use borrow.Author.Tests.{eq-eqb}
+use Rattle.calculus.specs.Lists.{upFrom, gather, picked}
 use Rattle.calculus.specs.Meaning.{Constraint}
 use Rattle.calculus.specs.Branch as calculus
 use Rattle.calculus.specs.Search.{Next, solved, step, next}
-use Rattle.calculus.specs.Log.{Event, formed, stepped, log}
+use Rattle.calculus.specs.Log.{formed, stepped, log}
 use Rattle.calculus.specs.Forms.{recordOf}
-use Rattle.calculus.specs.Invariants.{WellFormed, measure}
+use Rattle.calculus.specs.Invariants.{WellFormed}
 use Rattle.calculus.proofs.LogLaws.{at-zero}
 use Rattle.problem.specs.declared.Table.{Table}
 use Rattle.problem.specs.Table.{Opened}

@@ -6,7 +6,7 @@ use mathlib.Core.List.{List, [], _∷_, map}
 use Prim.Native.Nat.{ℕ, suc, _*_, _-_, _≤_, _<_}
 use lib.ListN.{length, getD}
 use Rattle.calculus.specs.Lists.{upFrom, gather, picked}
-use Rattle.calculus.specs.Terms.{Term, termsFrom}
+use Rattle.calculus.specs.Terms.{Term, term, termsFrom}
 use Rattle.calculus.specs.Meaning.{Constraint}
 use Rattle.calculus.specs.Branch as calculus
 use Rattle.calculus.specs.Search.{children}
@@ -18,13 +18,18 @@ use Rattle.calculus.specs.Invariants.{measure}
 use Rattle.problem.specs.declared.Table.{Table}
 use Rattle.problem.specs.Table.{constraintsOf, noConstraint}
 use Rattle.branch.specs.declared.Branch.{Branch}
-use Rattle.branch.specs.Held.{held, restrict, Good}
+use Rattle.branch.specs.Held.{held, restrict, rootOf, Good}
+use Rattle.constraints.specs.declared.Constraint as code
+use Rattle.constraints.specs.Decoded.{decoded, Unpacked}
 use Rattle.places.specs.Places.{moveAt}
 use Rattle.places.specs.Alternatives.{slotsOf, childOf}
+use Rattle.calm.specs.Calm.{Calm}
 use Rattle.search.specs.declared.Place.{Place}
-use Rattle.search.specs.First.{firstPlace, found, Within}
+use Rattle.search.specs.First.{firstPlace, found, Within, Finds}
+use Rattle.step.specs.Acts.{Acts}
 use Rattle.output.specs.declared.Counts.{Counts}
 use Rattle.output.specs.State.{State, state, play, left}
+use Rattle.solver.specs.declared.Inference.{Inference}
 use Rattle.solver.specs.declared.Inferred.{Inferred}
 
 -- the problem's terms, of which the constants are the lowest, and its constraints
@@ -94,19 +99,32 @@ pub record Going (budget : ℕ) (c : Counts) (trace : List ℕ) : Type 0 where
   pub few : budget ≤ 10000
   pub traced : 4 * budget ≤ length trace
 
-module _ (bs : List ℕ) (tab : Table) (budget : ℕ) (b : Branch) (c : Counts) (trace : List ℕ) (r : Inferred) (after : List ℕ) where
-  -- a propagation step was taken (found 1); or none applies (0); or the branch is closed or the budget spent (2)
-  pub record Infers : Type 0 where
-    pub went : r .found ≡ 1 → ((forms : List ℕ) → Leads bs tab budget b (state c forms trace) (r .branch) (state (r .counts) forms after)) × (remaining bs tab (r .branch) < remaining bs tab b)
-    pub good : r .found ≡ 1 → Good (tab .constants) (r .branch) × Going budget (r .counts) after × (r .counts .forms ≡ c .forms)
-    pub settled : r .found ≡ 0 → (r .branch ≡ b) × (r .counts ≡ c) × (after ≡ trace) × Settled bs tab b
-    pub ended : ¬ (r .found ≡ 0) → ¬ (r .found ≡ 1) → (forms : List ℕ) → Outcome bs tab budget b (state c forms trace) (state (r .counts) forms after)
+-- a search may begin so: of the constraints before number from, none has anything to do but where the root is concerned
+pub record Begins (bs : List ℕ) (tab : Table) (b : Branch) (from root : ℕ) : Type 0 where
+  pub in-problem : from ≤ tab .constraints
+  pub low : root < 64
+  pub rooted : 0 < from → (root < tab .terms) × (rootOf (b .parents) root ≡ root)
+  pub calm : Calm false (tab .terms) (constraints bs tab) (held b) from root
 
-  -- propagation steps were taken until none applies (found 0), or until the branch closed or the budget was spent
-  pub record Settles : Type 0 where
-    pub leads : r .found ≡ 0 → ((forms : List ℕ) → Leads bs tab budget b (state c forms trace) (r .branch) (state (r .counts) forms after)) × (remaining bs tab (r .branch) ≤ remaining bs tab b)
-    pub good : r .found ≡ 0 → Good (tab .constants) (r .branch) × Going budget (r .counts) after × (r .counts .forms ≡ c .forms) × Settled bs tab (r .branch)
-    pub ended : ¬ (r .found ≡ 0) → (forms : List ℕ) → Outcome bs tab budget b (state c forms trace) (state (r .counts) forms after)
+-- a step at a position of its constraint: the constraint decoded, what the step asserts, and the root concerned
+pub record Chosen (bs : List ℕ) (b : Branch) (r : Inference) (position : ℕ) : Type 0 where
+  pub entries : List ℕ
+  pub decodes : code.Constraint
+  pub unpacked : Unpacked bs (r .constraint) entries decodes
+  pub acts : Acts (b .parents) (decoded (map term entries) decodes) (r .rule) position 0 (r .act)
+  pub concerns : r .root ≡ moveAt (held b) (decoded (map term entries) decodes) (r .rule) position .0 .index
+
+-- the first propagation step of a branch; rule 0 says that none applies
+pub record Infers (bs : List ℕ) (tab : Table) (b : Branch) (r : Inference) : Type 0 where
+  pub position : ℕ
+  pub finds : Finds false (tab .terms) (constraints bs tab) (held b) (record { constraint = r .constraint; rule = r .rule; position = position })
+  pub chosen : ¬ (r .rule ≡ 0) → Chosen bs b r position
+
+-- propagation steps were taken until none applies (found 0), or until the branch closed or the budget was spent
+pub record Settles (bs : List ℕ) (tab : Table) (budget : ℕ) (b : Branch) (c : Counts) (trace : List ℕ) (r : Inferred) (after : List ℕ) : Type 0 where
+  pub leads : r .found ≡ 0 → ((forms : List ℕ) → Leads bs tab budget b (state c forms trace) (r .branch) (state (r .counts) forms after)) × (remaining bs tab (r .branch) ≤ remaining bs tab b)
+  pub good : r .found ≡ 0 → Good (tab .constants) (r .branch) × Going budget (r .counts) after × (r .counts .forms ≡ c .forms) × Settled bs tab (r .branch)
+  pub ended : ¬ (r .found ≡ 0) → (forms : List ℕ) → Outcome bs tab budget b (state c forms trace) (state (r .counts) forms after)
 
 -- a run of these bytes, if they are a problem, leaves what the calculus's run does
 abbrev pub Runs : List ℕ → ℕ → List ℕ → List ℕ → State → Type 0

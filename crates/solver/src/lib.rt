@@ -1,127 +1,188 @@
 // The run: a branch is worked until it splits, and each child is worked as a branch.
 use branch::Branch;
-use constraints::decode;
-use constraints::list;
+use constraints::decode_at;
+use constraints::list_at;
 use output::Counts;
 use output::list_form;
 use output::note;
 use problem::Table;
+use problem::Totals;
 use search::Place;
 use search::search;
-use step::child;
+use step::Act;
+use step::act_of;
 use step::concerned;
 use step::count;
+use step::perform;
 use step::slots;
+use step::target;
 ghost use mathlib.Core.Path.{_≡_};
-ghost use mathlib.Core.List.{[], _∷_};
-ghost use Prim.Native.Nat.{_+_, _*_, _≤_};
+ghost use Prim.Native.Nat.{_+_, _*_, _≤_, max};
 ghost use lib.ListN.{length};
 ghost use Rattle.calculus.specs.Lists.{upFrom};
-ghost use Rattle.calculus.specs.Problem.{Problem};
-ghost use Rattle.calculus.specs.Reading.{parsed, read};
 ghost use Rattle.calculus.specs.Run.{run};
-ghost use Rattle.problem.specs.Table.{Opened};
+ghost use Rattle.problem.specs.Table.{Opened, Tabled, tableBy};
 ghost use Rattle.branch.specs.Held.{Good};
+ghost use Rattle.step.specs.Acts.{branchOf};
 ghost use Rattle.output.specs.State.{state, putAt, Fine};
-ghost use Rattle.solver.specs.Outcomes.{Outcome, SplitOutcome, Going, Infers, Settles, Splits, splitRecord, Runs};
+ghost use Rattle.solver.specs.Outcomes.{Outcome, SplitOutcome, Going, Begins, Infers, Settles, Splits, splitRecord, Runs};
 
-// A branch after propagation, with the counts: found is 1 if a step was taken, 0 if none applies, 2 if the branch is closed or the budget spent.
+// A propagation step: its rule and constraint, the root concerned and what it asserts. Rule 0: none applies.
+pub struct Inference {
+    pub rule: u8,
+    pub constraint: u8,
+    pub root: u8,
+    pub act: Act,
+}
+
+// A branch after propagation, with the counts: found is 0 if no rule applies, 2 if the branch is closed or the budget spent.
 pub struct Inferred {
     pub branch: Branch,
     pub counts: Counts,
     pub found: u8,
 }
 
-// Working the branch has ended, with these counts.
-fn ended(b: Branch, counts: Counts) -> Inferred
-    ensures { λ r. ⌜ r ≡ record { branch = b; counts = counts; found = 2 } ⌝ }
-{
-    Inferred {
-        branch: b,
-        counts: counts,
-        found: 2,
-    }
-}
-
-// Takes the first propagation step, if there is one and the budget has a step left.
+// The first propagation step of a branch. Of the constraints before number from, none has anything to do but where the root is concerned.
 fn infer<'a>(
     problem: &'a [u8],
     numbers: &'a [u8],
-    tab: Table,
-    budget: usize,
-    b: Branch,
-    trace: &mut [u8],
-    c: Counts,
-) -> Inferred
-    requires { ⌜ Opened (now problem) tab × (now numbers ≡ upFrom 0 64) × Good (tab .constants) b × Going budget c (now trace) ⌝ }
-    ensures { λ r. ⌜ Infers (now (problem .entry)) tab budget b c (now (trace .entry)) r (now (trace .exit)) ⌝ }
+    totals: Totals,
+    offsets: &'a [u16],
+    witnesses: &'a [u8],
+    parents: &'a [u8],
+    insides: &'a [u8],
+    outsides: &'a [u8],
+    from: u8,
+    root: u8,
+) -> Inference
+    requires { ⌜ Tabled (now problem) totals (now offsets) (now witnesses) × (now numbers ≡ upFrom 0 64) × Good (totals .constants) (branchOf (now parents) (now insides) (now outsides)) × Begins (now problem) (tableBy totals (now offsets) (now witnesses)) (branchOf (now parents) (now insides) (now outsides)) from root ⌝ }
+    ensures { λ r. ⌜ Infers (now (problem .entry)) (tableBy totals (now (offsets .entry)) (now (witnesses .entry))) (branchOf (now (parents .entry)) (now (insides .entry)) (now (outsides .entry))) r ⌝ }
 {
-    let place = search(problem, numbers, tab, b, false);
+    let place = search(
+        problem,
+        numbers,
+        totals,
+        offsets,
+        witnesses,
+        parents,
+        insides,
+        outsides,
+        false,
+        from,
+        root,
+    );
     let rule = place.rule;
-    if rule == 0 {
-        return Inferred {
-            branch: b,
-            counts: c,
-            found: 0,
-        };
-    }
-    let steps = c.steps;
-    let forms = c.forms;
-    if steps == budget {
-        let spent = Counts {
-            steps: steps,
-            forms: forms,
-            stop: 1,
-        };
-        return ended(b, spent);
-    }
     let i = place.constraint;
     let p = place.position;
-    let constants = tab.constants;
-    let l = decode(problem, tab, i as usize);
-    let entries = list(problem, numbers, tab, i as usize, l);
-    let h = concerned(b, entries, l, constants, rule, p);
-    let next = child(b, entries, l, constants, rule, p, 0);
-    let after = Counts {
-        steps: steps + 1,
-        forms: forms,
-        stop: 0,
-    };
-    if next.conflict {
-        note(trace, steps, rule, i, h, 0);
-        return ended(b, after);
+    if rule == 0 {
+        return Inference {
+            rule: rule,
+            constraint: i,
+            root: 0,
+            act: Act::Close,
+        };
     }
-    note(trace, steps, rule, i, h, 1);
-    let then = next.branch;
-    Inferred {
-        branch: then,
-        counts: after,
-        found: 1,
+    let n = i as usize;
+    let at = offsets[n] as usize;
+    let l = decode_at(problem, n, at, witnesses[n]);
+    let entries = list_at(problem, numbers, n, at, l);
+    let h = concerned(parents, entries, rule, p);
+    let a = act_of(parents, entries, l, rule, p, 0);
+    Inference {
+        rule: rule,
+        constraint: i,
+        root: h,
+        act: a,
     }
+}
+
+// The higher of two numbers.
+fn later(a: u8, b: u8) -> u8
+    ensures { λ r. ⌜ r ≡ max a b ⌝ }
+{
+    if a <= b {
+        return b;
+    }
+    a
 }
 
 // Takes propagation steps until none applies, or the branch is closed, or the budget spent.
 fn settle<'a>(
     problem: &'a [u8],
     numbers: &'a [u8],
-    tab: Table,
+    totals: Totals,
+    offsets: &'a [u16],
+    witnesses: &'a [u8],
     budget: usize,
     b: Branch,
     trace: &mut [u8],
     c: Counts,
+    from: u8,
+    root: u8,
 ) -> Inferred
-    requires { ⌜ Opened (now problem) tab × (now numbers ≡ upFrom 0 64) × Good (tab .constants) b × Going budget c (now trace) ⌝ }
-    ensures { λ r. ⌜ Settles (now (problem .entry)) tab budget b c (now (trace .entry)) r (now (trace .exit)) ⌝ }
+    requires { ⌜ Tabled (now problem) totals (now offsets) (now witnesses) × (now numbers ≡ upFrom 0 64) × Good (totals .constants) b × Going budget c (now trace) × Begins (now problem) (tableBy totals (now offsets) (now witnesses)) b from root ⌝ }
+    ensures { λ r. ⌜ Settles (now (problem .entry)) (tableBy totals (now (offsets .entry)) (now (witnesses .entry))) budget b c (now (trace .entry)) r (now (trace .exit)) ⌝ }
 {
+    let constants = totals.constants;
     let mut at = b;
     let mut counts = c;
+    let mut first = from;
+    let mut changed = root;
     loop {
-        let next = infer(problem, numbers, tab, budget, at, trace, counts);
-        if next.found != 1 {
-            return next;
+        let step = infer(
+            problem,
+            numbers,
+            totals,
+            offsets,
+            witnesses,
+            &at.parents,
+            &at.insides,
+            &at.outsides,
+            first,
+            changed,
+        );
+        let rule = step.rule;
+        if rule == 0 {
+            return Inferred {
+                branch: at,
+                counts: counts,
+                found: 0,
+            };
         }
+        let steps = counts.steps;
+        let forms = counts.forms;
+        if steps == budget {
+            return Inferred {
+                branch: at,
+                counts: Counts {
+                    steps: steps,
+                    forms: forms,
+                    stop: 1,
+                },
+                found: 2,
+            };
+        }
+        let i = step.constraint;
+        let h = step.root;
+        let a = step.act;
+        let next = perform(at, a, constants);
         at = next.branch;
-        counts = next.counts;
+        counts = Counts {
+            steps: steps + 1,
+            forms: forms,
+            stop: 0,
+        };
+        if next.conflict {
+            note(trace, steps, rule, i, h, 0);
+            return Inferred {
+                branch: at,
+                counts: counts,
+                found: 2,
+            };
+        }
+        note(trace, steps, rule, i, h, 1);
+        first = later(first, i);
+        changed = target(a);
     }
 }
 
@@ -129,23 +190,29 @@ fn settle<'a>(
 fn note_split<'a>(
     problem: &'a [u8],
     numbers: &'a [u8],
-    tab: Table,
-    b: Branch,
+    totals: Totals,
+    offsets: &'a [u16],
+    witnesses: &'a [u8],
+    parents: &'a [u8],
+    insides: &'a [u8],
+    outsides: &'a [u8],
     place: Place,
     steps: usize,
     trace: &mut [u8],
 )
-    requires { ⌜ Opened (now problem) tab × (now numbers ≡ upFrom 0 64) × Good (tab .constants) b × Splits (now problem) tab b place × (4 * steps + 4 ≤ length (now trace)) ⌝ }
-    ensures { λ _. ⌜ now (trace .exit) ≡ putAt (now (trace .entry)) (4 * steps) (splitRecord (now (problem .entry)) tab b place) ⌝ }
+    requires { ⌜ Tabled (now problem) totals (now offsets) (now witnesses) × (now numbers ≡ upFrom 0 64) × Good (totals .constants) (branchOf (now parents) (now insides) (now outsides)) × Splits (now problem) (tableBy totals (now offsets) (now witnesses)) (branchOf (now parents) (now insides) (now outsides)) place × (4 * steps + 4 ≤ length (now trace)) ⌝ }
+    ensures { λ _. ⌜ now (trace .exit) ≡ putAt (now (trace .entry)) (4 * steps) (splitRecord (now (problem .entry)) (tableBy totals (now (offsets .entry)) (now (witnesses .entry))) (branchOf (now (parents .entry)) (now (insides .entry)) (now (outsides .entry))) place) ⌝ }
 {
     let i = place.constraint;
     let rule = place.rule;
     let p = place.position;
-    let constants = tab.constants;
-    let l = decode(problem, tab, i as usize);
-    let entries = list(problem, numbers, tab, i as usize, l);
-    let h = concerned(b, entries, l, constants, rule, p);
-    let kids = count(b, entries, l, constants, rule, p);
+    let constants = totals.constants;
+    let n = i as usize;
+    let at = offsets[n] as usize;
+    let l = decode_at(problem, n, at, witnesses[n]);
+    let entries = list_at(problem, numbers, n, at, l);
+    let h = concerned(parents, entries, rule, p);
+    let kids = count(parents, insides, outsides, entries, l, constants, rule, p);
     note(trace, steps, rule, i, h, kids);
 }
 
@@ -153,25 +220,53 @@ fn note_split<'a>(
 fn work<'a>(
     problem: &'a [u8],
     numbers: &'a [u8],
-    tab: Table,
+    totals: Totals,
+    offsets: &'a [u16],
+    witnesses: &'a [u8],
     budget: usize,
     b: Branch,
     forms: &mut [u8],
     trace: &mut [u8],
     c: Counts,
+    from: u8,
+    root: u8,
 ) -> Counts
-    requires { ⌜ Opened (now problem) tab × (now numbers ≡ upFrom 0 64) × Good (tab .constants) b × (c .stop ≡ 0) × Fine (tab .terms) budget (state c (now forms) (now trace)) × (tab .terms ≡ 0 → c .forms ≡ 0) ⌝ }
-    ensures { λ r. ⌜ Outcome (now (problem .entry)) tab budget b (state c (now (forms .entry)) (now (trace .entry))) (state r (now (forms .exit)) (now (trace .exit))) ⌝ }
+    requires { ⌜ Tabled (now problem) totals (now offsets) (now witnesses) × (now numbers ≡ upFrom 0 64) × Good (totals .constants) b × (c .stop ≡ 0) × Fine (totals .terms) budget (state c (now forms) (now trace)) × (totals .terms ≡ 0 → c .forms ≡ 0) × Begins (now problem) (tableBy totals (now offsets) (now witnesses)) b from root ⌝ }
+    ensures { λ r. ⌜ Outcome (now (problem .entry)) (tableBy totals (now (offsets .entry)) (now (witnesses .entry))) budget b (state c (now (forms .entry)) (now (trace .entry))) (state r (now (forms .exit)) (now (trace .exit))) ⌝ }
 {
-    let settled = settle(problem, numbers, tab, budget, b, trace, c);
+    let settled = settle(
+        problem,
+        numbers,
+        totals,
+        offsets,
+        witnesses,
+        budget,
+        b,
+        trace,
+        c,
+        from,
+        root,
+    );
     let counts = settled.counts;
     if settled.found != 0 {
         return counts;
     }
     let at = settled.branch;
-    let place = search(problem, numbers, tab, at, true);
+    let place = search(
+        problem,
+        numbers,
+        totals,
+        offsets,
+        witnesses,
+        &at.parents,
+        &at.insides,
+        &at.outsides,
+        true,
+        0,
+        0,
+    );
     if place.rule == 0 {
-        return list_form(at, tab.terms, counts, forms);
+        return list_form(at, totals.terms, counts, forms);
     }
     let taken = counts.steps;
     let listed = counts.forms;
@@ -182,11 +277,25 @@ fn work<'a>(
             stop: 1,
         };
     }
-    note_split(problem, numbers, tab, at, place, taken, trace);
+    note_split(
+        problem,
+        numbers,
+        totals,
+        offsets,
+        witnesses,
+        &at.parents,
+        &at.insides,
+        &at.outsides,
+        place,
+        taken,
+        trace,
+    );
     children(
         problem,
         numbers,
-        tab,
+        totals,
+        offsets,
+        witnesses,
         budget,
         at,
         place,
@@ -204,7 +313,9 @@ fn work<'a>(
 fn children<'a>(
     problem: &'a [u8],
     numbers: &'a [u8],
-    tab: Table,
+    totals: Totals,
+    offsets: &'a [u16],
+    witnesses: &'a [u8],
     budget: usize,
     b: Branch,
     place: Place,
@@ -212,22 +323,39 @@ fn children<'a>(
     trace: &mut [u8],
     c: Counts,
 ) -> Counts
-    requires { ⌜ Opened (now problem) tab × (now numbers ≡ upFrom 0 64) × Good (tab .constants) b × Splits (now problem) tab b place × (c .stop ≡ 0) × Fine (tab .terms) budget (state c (now forms) (now trace)) ⌝ }
-    ensures { λ r. ⌜ SplitOutcome (now (problem .entry)) tab budget b place (state c (now (forms .entry)) (now (trace .entry))) (state r (now (forms .exit)) (now (trace .exit))) ⌝ }
+    requires { ⌜ Tabled (now problem) totals (now offsets) (now witnesses) × (now numbers ≡ upFrom 0 64) × Good (totals .constants) b × Splits (now problem) (tableBy totals (now offsets) (now witnesses)) b place × (c .stop ≡ 0) × Fine (totals .terms) budget (state c (now forms) (now trace)) ⌝ }
+    ensures { λ r. ⌜ SplitOutcome (now (problem .entry)) (tableBy totals (now (offsets .entry)) (now (witnesses .entry))) budget b place (state c (now (forms .entry)) (now (trace .entry))) (state r (now (forms .exit)) (now (trace .exit))) ⌝ }
 {
     let i = place.constraint;
     let rule = place.rule;
     let p = place.position;
-    let constants = tab.constants;
-    let l = decode(problem, tab, i as usize);
-    let entries = list(problem, numbers, tab, i as usize, l);
+    let constants = totals.constants;
+    let last = totals.constraints;
+    let m = i as usize;
+    let at = offsets[m] as usize;
+    let l = decode_at(problem, m, at, witnesses[m]);
+    let entries = list_at(problem, numbers, m, at, l);
     let n = slots(entries, l, rule);
     let mut d = c;
     for k in 0..n {
-        let next = child(b, entries, l, constants, rule, p, k);
+        let a = act_of(&b.parents, entries, l, rule, p, k);
+        let next = perform(b, a, constants);
         if !next.conflict {
             let then = next.branch;
-            d = work(problem, numbers, tab, budget, then, forms, trace, d);
+            d = work(
+                problem,
+                numbers,
+                totals,
+                offsets,
+                witnesses,
+                budget,
+                then,
+                forms,
+                trace,
+                d,
+                last,
+                target(a),
+            );
             if d.stop != 0 {
                 return d;
             }
@@ -249,10 +377,22 @@ pub fn solve(
 {
     let b = Branch::start();
     let numbers = b.parents;
+    let offsets = tab.offsets;
+    let witnesses = tab.witnesses;
+    let totals = Totals {
+        refusal: tab.refusal,
+        constants: tab.constants,
+        variables: tab.variables,
+        sets: tab.sets,
+        constraints: tab.constraints,
+        terms: tab.terms,
+    };
     work(
         problem,
         &numbers,
-        tab,
+        totals,
+        &offsets,
+        &witnesses,
         budget,
         b,
         forms,
@@ -262,5 +402,7 @@ pub fn solve(
             forms: 0,
             stop: 0,
         },
+        0,
+        0,
     )
 }

@@ -1,20 +1,28 @@
 -- Rules 19 and 20: the entries of a list, and their classes.
 use mathlib.Core.Path.{_≡_, refl, sym, ap, _∙_}
-use mathlib.Core.Bool.{Bool, true, false, _||_, true≢false}
-use mathlib.Core.Option.{none}
+use mathlib.Core.Bool.{Bool, true, false, _||_, cond, true≢false, false≢true}
+use mathlib.Core.Option.{Option}
 use mathlib.Core.List.{List, [], _∷_, map}
-use Prim.Native.Nat.{ℕ, zero, suc, _+_, _≤_, _<_}
+use Prim.Native.Nat.{ℕ, zero, suc, _+_, _^_, _≤_, _<_}
 use native.Mathlib.Numerals.{add-one}
 use native.Mathlib.Omega.{arith}
 use lib.ListN.{length, getD, take, List·getD-map}
 use lib.Dec.{eqb}
 use borrow.Author.Tests.{eq-eqb, ne-eqb}
 use Rattle.calculus.specs.Lists.{any}
-use Rattle.calculus.specs.Terms.{Term, SetVar, term}
+use Rattle.calculus.specs.Terms.{Term, SetVar, term, termsFrom}
 use Rattle.calculus.specs.Branch.{Branch, rootAt, In, Same, assert}
+use Rattle.calculus.specs.Search.{Move}
 use Rattle.calculus.proofs.Bools.{or-l, or-r, any-map}
+use Rattle.calculus.specs.Invariants.{Falls}
 use Rattle.branch.specs.Held.{rootOf}
+use Rattle.places.specs.Places.{listMove}
+use Rattle.terms.specs.declared.Term.{Term as CodedTerm}
+use Rattle.step.specs.declared.Act.{Act}
+use Rattle.step.specs.declared.Act.the-variants.{Note, Close}
 use Rattle.step.specs.Numbered.{listChild}
+use Rattle.step.specs.Acts.{Does}
+use Rattle.step.proofs.Acting.{root-own-in, same-root, does-by, close-does, in-does}
 
 -- ---- a loop over the entries before one
 
@@ -60,27 +68,57 @@ take-map f zero xs = refl
 take-map f (suc n) [] = refl
 take-map f (suc n) (x ∷ xs) = ap (λ (r : List Term). f x ∷ r) (take-map f n xs)
 
-module _ (b : Branch) (es : List ℕ) where
-  abbrev Seen : ℕ → Bool
-  Seen c = any (λ (e : ℕ). eqb (rootOf (b .parents) e) (rootOf (b .parents) (getD es c 0))) (take c es)
+-- the term concerned, by a test
+if-true : (x : Bool) (u v : Term × Move) → x ≡ true → cond x u v .0 .index ≡ u .0 .index
+if-true true u v e = refl
+if-true false u v e = absurd (false≢true e)
 
-  -- the test on bytes is that on terms
-  seen-is : (c : ℕ) → any (λ (e : Term). eqb (rootAt b (e .index)) (rootAt b (getD (map term es) c (term 0) .index))) (take c (map term es)) ≡ Seen c
-  unfolding rootAt rootOf
-  seen-is c = rw (List·getD-map term es c 0, take-map term c es) (any-map (λ (e : Term). eqb (rootAt b (e .index)) (rootAt b (getD es c 0))) term (take c es))
+if-false : (x : Bool) (u v : Term × Move) → x ≡ false → cond x u v .0 .index ≡ v .0 .index
+if-false true u v e = absurd (true≢false e)
+if-false false u v e = refl
 
-  module _ (constants : List Term) (a : SetVar) (j p c : ℕ) where
-    -- rule 19
-    pub entry-child : j ≡ 19 → assert [] b (In (term (getD es p 0)) a) ≡ listChild constants b (map term es) a j p c
+module _ (ps es : List ℕ) (fall : Falls ps) (A : SetVar) (j p c : ℕ) where
+  abbrev Seen : Bool
+  Seen = any (λ (e : ℕ). eqb (rootOf ps e) (rootOf ps (getD es c 0))) (take c es)
+
+  abbrev child : ℕ → Branch → Option Branch
+  child k b = listChild (termsFrom 0 k) b (map term es) A j p c
+
+  abbrev place : Branch → ℕ
+  place b = listMove b A (map term es) j p .0 .index
+
+  -- rule 19
+  entry-child : j ≡ 19 → (k : ℕ) (b : Branch) → child k b ≡ assert [] b (In (term (getD es p 0)) A)
+  unfolding listChild
+  entry-child e k b = rw (eq-eqb j 19 e, List·getD-map term es p 0)
+
+  entry-place : j ≡ 19 → (b : Branch) → place b ≡ rootAt b (getD es p 0)
+  entry-place e b = if-true (eqb j 19) _ _ (eq-eqb j 19 e) ∙ ap (λ (t : Term). rootAt b (t .index)) (List·getD-map term es p 0)
+
+  pub entry-does : j ≡ 19 → getD es p 0 < 64 → (h : CodedTerm) → h .0 ≡ rootOf ps (getD es p 0) → (m : ℕ) → m ≡ 2 ^ A .index → Does ps child place (Note h m 0)
+  entry-does e l h q m r = in-does ps fall (getD es p 0) l h q child place (λ b z. ap (rootOf ps) (entry-place e b) ∙ root-own-in ps fall b (getD es p 0) z) (A .index) m r (entry-child e)
+
+  -- rule 20
+  module _ (n : ¬ (j ≡ 19)) where
+    -- the test on bytes is that on terms
+    seen-is : (b : Branch) → b .parents ≡ ps → any (λ (e : Term). eqb (rootAt b (e .index)) (rootAt b (getD (map term es) c (term 0) .index))) (take c (map term es)) ≡ Seen
+    unfolding rootAt rootOf
+    seen-is b q =
+        rw (List·getD-map term es c 0, take-map term c es) (any-map (λ (e : Term). eqb (rootAt b (e .index)) (rootAt b (getD es c 0))) term (take c es))
+        ∙ ap (λ (x : List ℕ). any (λ (e : ℕ). eqb (rootOf x e) (rootOf x (getD es c 0))) (take c es)) q
+
+    -- at a class that stood before
+    pub seen-does : Seen ≡ true → Does ps child place Close
     unfolding listChild
-    entry-child e = rw (eq-eqb j 19 e, List·getD-map term es p 0)
-
-    -- rule 20 at a class that stood before
-    pub seen-child : ¬ (j ≡ 19) → Seen c ≡ true → none ≡ listChild constants b (map term es) a j p c
-    unfolding listChild
-    seen-child n s = rw (ne-eqb j 19 n, seen-is c, s)
+    seen-does s = close-does ps fall child place (λ k b q. rw (ne-eqb j 19 n, seen-is b q, s))
 
     -- and at one that did not
-    pub class-child : ¬ (j ≡ 19) → Seen c ≡ false → (h : ℕ) → h ≡ rootAt b (getD es c 0) → assert constants b (Same (term p) (term h)) ≡ listChild constants b (map term es) a j p c
+    class-child : Seen ≡ false → (k : ℕ) (b : Branch) → b .parents ≡ ps → child k b ≡ assert (termsFrom 0 k) b (Same (term p) (term (getD es c 0)))
     unfolding listChild
-    class-child n s h e = rw (ne-eqb j 19 n, seen-is c, s, List·getD-map term es c 0, e)
+    class-child s k b q = rw (ne-eqb j 19 n, seen-is b q, s, List·getD-map term es c 0) (same-root ps fall (termsFrom 0 k) b p (getD es c 0) q)
+
+    class-place : (b : Branch) → place b ≡ p
+    class-place b = if-false (eqb j 19) _ _ (ne-eqb j 19 n)
+
+    pub class-does : Seen ≡ false → (a : Act) → Does ps (λ k b. assert (termsFrom 0 k) b (Same (term p) (term (getD es c 0)))) (λ b. p) a → Does ps child place a
+    class-does s a = does-by ps fall (λ k b. assert (termsFrom 0 k) b (Same (term p) (term (getD es c 0)))) child (λ b. p) place a (class-child s) (λ b q. ap (rootOf ps) (class-place b))

@@ -1,6 +1,6 @@
 -- Counting the children that do not conflict.
 use mathlib.Core.Path.{_≡_, refl, sym, ap, _∙_}
-use mathlib.Core.Bool.{true, false, true≢false, false≢true}
+use mathlib.Core.Bool.{true, false}
 use mathlib.Core.Option.{Option, none, some}
 use mathlib.Core.List.{List, map}
 use Prim.Native.Nat.{ℕ, zero, suc, _+_, _≤_}
@@ -13,9 +13,9 @@ use Rattle.calculus.specs.Terms.{Term, term}
 use Rattle.calculus.specs.Meaning as meaning
 use Rattle.calculus.specs.Branch as calculus
 use Rattle.calculus.specs.Search.{children}
-use Rattle.branch.specs.declared.Branch.{Branch}
 use Rattle.branch.specs.declared.Asserted.{Asserted}
-use Rattle.branch.specs.Held.{held, answer}
+use Rattle.branch.specs.Held.{outcome}
+use Rattle.branch.proofs.Laws.{answered, refusing}
 use Rattle.constraints.specs.declared.Constraint.{Constraint}
 use Rattle.constraints.specs.Decoded.{decoded, Handled}
 use Rattle.places.specs.Places.{RuleOf, moveAt}
@@ -52,29 +52,19 @@ module _ (f : ℕ → Option calculus.Branch) where
       go none e ih = let z : f (suc s + n) ≡ f (s + suc n) = ap f (omega arith) in rw (e, picked) (rw (← z) ih)
       go (some d) e ih = let z : f (suc s + n) ≡ f (s + suc n) = ap f (omega arith) in rw (e, picked) (rw (← z) (omega arith))
 
--- kept counts the children below c, and r answers child c
-module _ (constants : List Term) (b : Branch) (l : meaning.Constraint) (j p c kept : ℕ) (r : Asserted) (e : r ≡ answer b (childOf constants (held b) l j p c)) (k : kept ≡ length (picked (childOf constants (held b) l j p) (upFrom 0 c))) where
+-- kept counts the children below c, and r is what child c comes to
+module _ (constants : List Term) (b : calculus.Branch) (l : meaning.Constraint) (j p c kept : ℕ) (r : Asserted) (e : childOf constants b l j p c ≡ outcome r) (k : kept ≡ length (picked (childOf constants b l j p) (upFrom 0 c))) where
   abbrev f : ℕ → Option calculus.Branch
-  f = childOf constants (held b) l j p
+  f = childOf constants b l j p
 
   last : length (picked f (upFrom 0 (c + 1))) ≡ kept + one (f c)
   last = let z : f (0 + c) ≡ f c = ap f (omega arith) in rw (add-one c, k, ← z) (picked-last f 0 c)
 
   pub one-more : r .conflict ≡ false → kept + 1 ≡ length (picked f (upFrom 0 (c + 1)))
-  unfolding answer
-  one-more q = go (f c) refl
-    where
-      go : (o : Option calculus.Branch) → f c ≡ o → kept + 1 ≡ length (picked f (upFrom 0 (c + 1)))
-      go none z = absurd (true≢false (sym (ap (λ (x : Asserted). x .conflict) (e ∙ ap (answer b) z)) ∙ q))
-      go (some d) z = sym (last ∙ ap (λ (o : Option calculus.Branch). kept + one o) z)
+  one-more q = sym (last ∙ ap (λ (o : Option calculus.Branch). kept + one o) (answered (f c) r e q))
 
   pub no-more : r .conflict ≡ true → kept ≡ length (picked f (upFrom 0 (c + 1)))
-  unfolding answer
-  no-more q = go (f c) refl
-    where
-      go : (o : Option calculus.Branch) → f c ≡ o → kept ≡ length (picked f (upFrom 0 (c + 1)))
-      go none z = sym (last ∙ ap (λ (o : Option calculus.Branch). kept + one o) z ∙ omega arith)
-      go (some d) z = absurd (false≢true (sym (ap (λ (x : Asserted). x .conflict) (e ∙ ap (answer b) z)) ∙ q))
+  no-more q = sym (last ∙ ap (λ (o : Option calculus.Branch). kept + one o) (refusing (f c) r e q) ∙ omega arith)
 
 -- all numbers counted are all children counted
 pub counted : (constants : List Term) (b : calculus.Branch) (l : meaning.Constraint) (j p : ℕ) → RuleOf l j → (n c : ℕ) → n ≡ slotsOf l j → c ≤ n → n ≤ c → (kept : ℕ) → kept ≡ length (picked (childOf constants b l j p) (upFrom 0 c)) → kept ≡ length (children constants b (moveAt b l j p .1))

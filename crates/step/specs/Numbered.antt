@@ -11,8 +11,6 @@ use Rattle.calculus.specs.Relations as R
 use Rattle.calculus.specs.Branch.{Branch, Fact, In, assert}
 use Rattle.calculus.specs.Search.{operandOf, at}
 use Rattle.places.specs.Alternatives.{classChild}
-use Rattle.constraints.specs.declared.Constraint.{Constraint}
-use Rattle.constraints.specs.declared.Constraint.the-variants.{Member, Nonmember, Same, Different, Related, Negated, Exactly, Interval}
 
 -- the rules on sets, 5 to 18
 unfoldable pub rowNumbered : ℕ → Rule Literal
@@ -26,14 +24,3 @@ factsOf t x y z j c = getD (at t (operandOf x y z) (rowNumbered j) .alternatives
 -- rule 19: entry p is in a; rule 20: root p is in the class of entry c
 unfoldable pub listChild : List Term → Branch → List Term → SetVar → ℕ → ℕ → ℕ → Option Branch
 listChild constants b es a j p c = cond (eqb j 19) (assert [] b (In (getD es p (term 0)) a)) (classChild constants b es p c)
-
--- the number of a list's set, or an interval's; any other constraint has 0
-abbrev pub setNumber : Constraint → ℕ
-setNumber (Member t a) = 0
-setNumber (Nonmember t a) = 0
-setNumber (Same t u) = 0
-setNumber (Different t u) = 0
-setNumber (Related k a b c) = 0
-setNumber (Negated k a b c w) = 0
-setNumber (Exactly a) = a .0
-setNumber (Interval a t u) = a .0

@@ -6,20 +6,29 @@ use constraints::Constraint;
 use terms::SetVar;
 use terms::Term;
 ghost use mathlib.Core.Path.{_≡_};
-ghost use mathlib.Core.List.{[], _∷_, map};
-ghost use Prim.Native.Nat.{_≤_, _<_};
+ghost use mathlib.Core.Bool.{cond};
+ghost use mathlib.Core.List.{List, [], map};
+ghost use Prim.Native.Nat.{ℕ, _^_, _≤_, _<_};
 ghost use lib.ListN.{length, getD, take};
 ghost use lib.Dec.{eqb};
 ghost use Rattle.calculus.specs.Lists.{Each, any};
 ghost use Rattle.calculus.specs.Terms.{term, setVar, termsFrom};
-ghost use Rattle.calculus.specs.Branch.{In, Out, assertAll};
+ghost use Rattle.calculus.specs.Branch.{Same, assert, assertAll};
 ghost use Rattle.calculus.specs.Search.{children};
 ghost use Rattle.calculus.specs.Invariants.{Falls};
-ghost use Rattle.branch.specs.Held.{held, rootOf, answer, Good};
+ghost use Rattle.branch.specs.Held.{held, rootOf, Good};
 ghost use Rattle.constraints.specs.Decoded.{decoded, Handled};
-ghost use Rattle.places.specs.Places.{RuleOf, moveAt};
-ghost use Rattle.places.specs.Alternatives.{slotsOf, childOf};
-ghost use Rattle.step.specs.Numbered.{rowNumbered, factsOf, listChild, setNumber};
+ghost use Rattle.places.specs.Places.{RuleOf, listMove, moveAt};
+ghost use Rattle.places.specs.Alternatives.{slotsOf};
+ghost use Rattle.step.specs.Numbered.{rowNumbered, factsOf, listChild};
+ghost use Rattle.step.specs.Acts.{branchOf, performed, Below, Rooted, target, Does, Acts};
+
+// What a child of a step asserts: the class of a root is in the sets of one mask and out of those of another; the classes of two roots, the lower first, are one; or a conflict, whatever is known.
+pub enum Act {
+    Note(Term, u8, u8),
+    Merge(Term, Term),
+    Close,
+}
 
 // How many children rule j of a constraint can have.
 pub fn slots(list: &[u8], l: Constraint, j: u8) -> usize
@@ -38,37 +47,75 @@ pub fn slots(list: &[u8], l: Constraint, j: u8) -> usize
     1
 }
 
-// The root concerned by rule j at position p.
-pub fn concerned(b: Branch, list: &[u8], l: Constraint, constants: u8, j: u8, p: u8) -> u8
-    requires { ⌜ Good constants b × Handled (now list) l × RuleOf (decoded (map term (now list)) l) j × (j ≡ 19 → p < length (now list)) × (¬ (j ≡ 19) → moveAt (held b) (decoded (map term (now list)) l) j p .0 ≡ term p) ⌝ }
-    ensures { λ r. ⌜ r ≡ moveAt (held b) (decoded (map term (now (list .entry))) l) j p .0 .index ⌝ }
+// The root concerned by rule j at position p: rule 19 is at an entry, any other at a root.
+pub fn concerned(parents: &[u8], list: &[u8], j: u8, p: u8) -> u8
+    requires { ⌜ (length (now parents) ≡ 64) × Falls (now parents) × Each (λ e. e < 64) (now list) × (j ≡ 19 → p < length (now list)) ⌝ }
+    ensures { λ r. ⌜ r ≡ cond (eqb j 19) (rootOf (now (parents .entry)) (getD (now (list .entry)) p 0)) p ⌝ }
 {
     if j == 19 {
         let at = p as usize;
-        let h = b.root(Term(list[at]));
+        let h = root(parents, Term(list[at]));
         return h.0;
     }
     p
 }
 
-// Child c of rule j, 5 to 18 but 7, at term t; the operands are x, y and z.
-fn related(b: Branch, j: u8, t: Term, x: SetVar, y: SetVar, z: SetVar, c: usize) -> Asserted
-    requires { ⌜ (5 ≤ j) × (j < 19) × ¬ (j ≡ 7) × (t .0 < 64) × (x .0 < 8) × (y .0 < 8) × (z .0 < 8) × Falls (b .parents) × (c < length (rowNumbered j .alternatives)) ⌝ }
-    ensures { λ r. ⌜ r ≡ answer b (assertAll [] (held b) (factsOf (term (t .0)) (setVar (x .0)) (setVar (y .0)) (setVar (z .0)) j c)) ⌝ }
+// The root of t's class.
+fn root(parents: &[u8], t: Term) -> Term
+    requires { ⌜ (t .0 < 64) × (length (now parents) ≡ 64) × Falls (now parents) ⌝ }
+    ensures { λ r. ⌜ r .0 ≡ rootOf (now (parents .entry)) (t .0) ⌝ }
 {
+    let i = t.0 as usize;
+    let h = find(parents, i) as u8;
+    Term(h)
+}
+
+// The mask of one set.
+fn only(a: SetVar) -> u8
+    requires { ⌜ a .0 < 8 ⌝ }
+    ensures { λ r. ⌜ r ≡ 2 ^ (a .0) ⌝ }
+{
+    1 << a.0
+}
+
+// t and u are one class.
+fn same(parents: &[u8], t: Term, u: Term) -> Act
+    requires { ⌜ (t .0 < 64) × (u .0 < 64) × (length (now parents) ≡ 64) × Falls (now parents) ⌝ }
+    ensures { λ r. ⌜ Does (now (parents .entry)) (λ k b. assert (termsFrom 0 k) b (Same (term (t .0)) (term (u .0)))) (λ b. t .0) r ⌝ }
+{
+    let h = root(parents, t);
+    let k = root(parents, u);
+    if h.0 < k.0 {
+        return Act::Merge(h, k);
+    }
+    if k.0 < h.0 {
+        return Act::Merge(k, h);
+    }
+    Act::Note(h, 0, 0)
+}
+
+// Child c of rule j, 5 to 18 but 7, at term t; the operands are x, y and z.
+fn related(parents: &[u8], j: u8, t: Term, x: SetVar, y: SetVar, z: SetVar, c: usize) -> Act
+    requires { ⌜ (5 ≤ j) × (j < 19) × ¬ (j ≡ 7) × (t .0 < 64) × (x .0 < 8) × (y .0 < 8) × (z .0 < 8) × (length (now parents) ≡ 64) × Falls (now parents) × (c < length (rowNumbered j .alternatives)) ⌝ }
+    ensures { λ r. ⌜ Does (now (parents .entry)) (λ k b. assertAll [] b (factsOf (term (t .0)) (setVar (x .0)) (setVar (y .0)) (setVar (z .0)) j c)) (λ b. t .0) r ⌝ }
+{
+    let h = root(parents, t);
+    let first = only(x);
+    let second = only(y);
+    let third = only(z);
     match j {
-        5 | 10 | 15 | 17 => b.assert_in(t, y),
-        6 | 11 | 16 => b.assert_in(t, x),
-        13 => b.assert_out(t, y),
-        14 => b.assert_out(t, x),
+        5 | 10 | 15 | 17 => Act::Note(h, second, 0),
+        6 | 11 | 16 => Act::Note(h, first, 0),
+        13 => Act::Note(h, 0, second),
+        14 => Act::Note(h, 0, first),
         12 => {
             if c == 0 {
-                return b.assert_in(t, x);
+                return Act::Note(h, first, 0);
             }
-            b.assert_out_in(t, x, y)
+            Act::Note(h, second, first)
         }
         // 8, 9 and 18
-        _ => b.assert_in(t, z),
+        _ => Act::Note(h, third, 0),
     }
 }
 
@@ -88,79 +135,121 @@ fn seen(parents: &[u8], list: &[u8], c: usize) -> bool
 }
 
 // Rule 19: entry p of the list is in a. Rule 20: child c merges root p with the class of entry c, if that is no earlier entry's.
-fn listed(b: Branch, list: &[u8], a: SetVar, constants: u8, j: u8, p: u8, c: usize) -> Asserted
-    requires { ⌜ Good constants b × (a .0 < 8) × Each (λ e. e < 64) (now list) × (j ≡ 19 → p < length (now list)) × (¬ (j ≡ 19) → (p < 64) × (c < length (now list))) ⌝ }
-    ensures { λ r. ⌜ r ≡ answer b (listChild (termsFrom 0 constants) (held b) (map term (now (list .entry))) (setVar (a .0)) j p c) ⌝ }
+fn listed(parents: &[u8], list: &[u8], a: SetVar, j: u8, p: u8, c: usize) -> Act
+    requires { ⌜ (length (now parents) ≡ 64) × Falls (now parents) × (a .0 < 8) × Each (λ e. e < 64) (now list) × (j ≡ 19 → p < length (now list)) × (¬ (j ≡ 19) → (p < 64) × (c < length (now list))) ⌝ }
+    ensures { λ r. ⌜ Does (now (parents .entry)) (λ k b. listChild (termsFrom 0 k) b (map term (now (list .entry))) (setVar (a .0)) j p c) (λ b. listMove b (setVar (a .0)) (map term (now (list .entry))) j p .0 .index) r ⌝ }
 {
     if j == 19 {
-        let at = p as usize;
-        return b.assert_in(Term(list[at]), a);
+        let h = root(parents, Term(list[p as usize]));
+        let m = only(a);
+        return Act::Note(h, m, 0);
     }
-    let parents = b.parents;
-    if seen(&parents, list, c) {
-        return Asserted {
-            branch: b,
-            conflict: true,
-        };
+    if seen(parents, list, c) {
+        return Act::Close;
     }
-    let h = b.root(Term(list[c]));
-    b.merge(Term(p), h, constants)
+    same(parents, Term(p), Term(list[c]))
 }
 
-// The set of a list or of an interval; of any other constraint set 0.
-fn set_of(l: Constraint) -> SetVar
-    ensures { λ r. ⌜ r .0 ≡ setNumber l ⌝ }
+// Child c of rule j at position p.
+pub fn act_of(parents: &[u8], list: &[u8], l: Constraint, j: u8, p: u8, c: usize) -> Act
+    requires { ⌜ (length (now parents) ≡ 64) × Falls (now parents) × Handled (now list) l × RuleOf (decoded (map term (now list)) l) j × (j ≡ 19 → p < length (now list)) × (¬ (j ≡ 19) → p < 64) × (c < slotsOf (decoded (map term (now list)) l) j) ⌝ }
+    ensures { λ r. ⌜ Acts (now (parents .entry)) (decoded (map term (now (list .entry))) l) j p c r ⌝ }
 {
     match l {
-        Constraint::Exactly(a) => a,
-        Constraint::Interval(a, _, _) => a,
-        _ => SetVar(0),
+        Constraint::Member(t, a) => {
+            let h = root(parents, t);
+            let m = only(a);
+            Act::Note(h, m, 0)
+        }
+        Constraint::Nonmember(t, a) => {
+            let h = root(parents, t);
+            let m = only(a);
+            Act::Note(h, 0, m)
+        }
+        Constraint::Same(t, u) => same(parents, t, u),
+        Constraint::Different(_, _) => Act::Close,
+        Constraint::Related(_, x, y, z) => related(parents, j, Term(p), x, y, z, c),
+        Constraint::Negated(_, x, y, _, w) => {
+            let h = root(parents, w);
+            let first = only(x);
+            let second = only(y);
+            if c == 0 {
+                return Act::Note(h, first, second);
+            }
+            Act::Note(h, second, first)
+        }
+        Constraint::Exactly(a) => listed(parents, list, a, j, p, c),
+        Constraint::Interval(a, _, _) => listed(parents, list, a, j, p, c),
     }
 }
 
-// Child c of rule j at position p: the branch with its facts asserted, or a conflict.
-pub fn child(
-    b: Branch,
+// The root of the class that an act changes.
+pub fn target(a: Act) -> u8
+    ensures { λ r. ⌜ r ≡ target a ⌝ }
+{
+    match a {
+        Act::Note(h, _, _) => h.0,
+        Act::Merge(lo, _) => lo.0,
+        Act::Close => 0,
+    }
+}
+
+// The branch after an act, and whether that conflicts.
+pub fn perform(b: Branch, a: Act, constants: u8) -> Asserted
+    requires { ⌜ Rooted (b .parents) a ⌝ }
+    ensures { λ r. ⌜ r ≡ performed constants b a ⌝ }
+{
+    match a {
+        Act::Note(h, x, y) => b.note(h, x, y),
+        Act::Merge(lo, hi) => b.merge(lo, hi, constants),
+        Act::Close => Asserted {
+            branch: b,
+            conflict: true,
+        },
+    }
+}
+
+// An act conflicts, by the masks alone.
+fn conflicts(insides: &[u8], outsides: &[u8], a: Act, constants: u8) -> bool
+    requires { ⌜ (length (now insides) ≡ 64) × (length (now outsides) ≡ 64) × Below a ⌝ }
+    ensures { λ r. ⌜ ((ps : List ℕ) → r ≡ performed constants (branchOf ps (now (insides .entry)) (now (outsides .entry))) a .conflict) ⌝ }
+{
+    match a {
+        Act::Note(h, x, y) => {
+            let i = h.0 as usize;
+            (insides[i] | x) & (outsides[i] | y) != 0
+        }
+        Act::Merge(lo, hi) => {
+            if hi.0 < constants {
+                return true;
+            }
+            let i = lo.0 as usize;
+            let j = hi.0 as usize;
+            (insides[i] | insides[j]) & (outsides[i] | outsides[j]) != 0
+        }
+        Act::Close => true,
+    }
+}
+
+// How many children the step has: those that do not conflict.
+pub fn count<'a>(
+    parents: &'a [u8],
+    insides: &'a [u8],
+    outsides: &'a [u8],
     list: &[u8],
     l: Constraint,
     constants: u8,
     j: u8,
     p: u8,
-    c: usize,
-) -> Asserted
-    requires { ⌜ Good constants b × Handled (now list) l × RuleOf (decoded (map term (now list)) l) j × (j ≡ 19 → p < length (now list)) × (¬ (j ≡ 19) → p < 64) × (c < slotsOf (decoded (map term (now list)) l) j) ⌝ }
-    ensures { λ r. ⌜ r ≡ answer b (childOf (termsFrom 0 constants) (held b) (decoded (map term (now (list .entry))) l) j p c) ⌝ }
-{
-    match l {
-        Constraint::Member(t, a) => b.assert_in(t, a),
-        Constraint::Nonmember(t, a) => b.assert_out(t, a),
-        Constraint::Same(t, u) => b.merge(t, u, constants),
-        Constraint::Different(_, _) => Asserted {
-            branch: b,
-            conflict: true,
-        },
-        Constraint::Related(_, x, y, z) => related(b, j, Term(p), x, y, z, c),
-        Constraint::Negated(_, x, y, _, w) => {
-            if c == 0 {
-                return b.assert_in_out(w, x, y);
-            }
-            b.assert_out_in(w, x, y)
-        }
-        // a list or an interval
-        _ => listed(b, list, set_of(l), constants, j, p, c),
-    }
-}
-
-// How many children the step has: those that do not conflict.
-pub fn count(b: Branch, list: &[u8], l: Constraint, constants: u8, j: u8, p: u8) -> u8
-    requires { ⌜ Good constants b × Handled (now list) l × RuleOf (decoded (map term (now list)) l) j × (j ≡ 19 → p < length (now list)) × (¬ (j ≡ 19) → p < 64) ⌝ }
-    ensures { λ r. ⌜ r ≡ length (children (termsFrom 0 constants) (held b) (moveAt (held b) (decoded (map term (now (list .entry))) l) j p .1)) ⌝ }
+) -> u8
+    requires { ⌜ Good constants (branchOf (now parents) (now insides) (now outsides)) × Handled (now list) l × RuleOf (decoded (map term (now list)) l) j × (j ≡ 19 → p < length (now list)) × (¬ (j ≡ 19) → p < 64) ⌝ }
+    ensures { λ r. ⌜ r ≡ length (children (termsFrom 0 constants) (held (branchOf (now (parents .entry)) (now (insides .entry)) (now (outsides .entry)))) (moveAt (held (branchOf (now (parents .entry)) (now (insides .entry)) (now (outsides .entry)))) (decoded (map term (now (list .entry))) l) j p .1)) ⌝ }
 {
     let n = slots(list, l, j);
     let mut kept = 0u8;
     for c in 0..n {
-        let next = child(b, list, l, constants, j, p, c);
-        if !next.conflict {
+        let a = act_of(parents, list, l, j, p, c);
+        if !conflicts(insides, outsides, a, constants) {
             kept = kept + 1;
         }
     }

@@ -141,6 +141,17 @@ fn unions(names: usize, idle: usize) -> Draft {
     d
 }
 
+/// Unions of 7 names, with constraints that have nothing to do: only the
+/// number of constraints grows.
+fn padded(lines: usize) -> Draft {
+    let mut d = unions(7, 8);
+    let idle = [vec![4, 0, 1], vec![9, 0, 2], vec![4, 2, 3], vec![9, 1, 2], vec![5, 2, 2], vec![4, 4, 5]];
+    for n in 0..lines - d.lines.len() {
+        d.lines.push(idle[n % idle.len()].clone());
+    }
+    d
+}
+
 /// Names, all apart, on too few places. Further terms stand by.
 fn crowd(places: usize, names: usize, terms: usize) -> Draft {
     let more = terms - places - names;
@@ -188,8 +199,82 @@ fn median(mut all: Vec<f64>) -> f64 {
     all[all.len() / 2]
 }
 
+/// A problem as it was measured; times are nanoseconds a call.
+struct Row {
+    name: &'static str,
+    terms: usize,
+    sets: usize,
+    lines: usize,
+    word: u64,
+    separate: f64,
+    library: f64,
+}
+
+impl Row {
+    fn steps(&self) -> f64 {
+        answer::steps(self.word).max(1) as f64
+    }
+}
+
+/// Medians of both solvers, which take turns.
+fn measure(name: &'static str, draft: &Draft, forms: &mut [u8], trace: &mut [u8]) -> Row {
+    let bytes = draft.bytes();
+    let Ok(sheet) = Sheet::read(&bytes) else { panic!("{name} is refused") };
+    let word = solver::run(&bytes, BUDGET, forms, trace);
+    assert_eq!(word, ffi::run_bare(&bytes, BUDGET, forms, trace), "{name}");
+
+    let mut batch = |who: usize, calls: usize| -> f64 {
+        let start = ffi::thread_time();
+        for _ in 0..calls {
+            let problem = black_box(&bytes[..]);
+            black_box(if who == 0 {
+                solver::run(problem, BUDGET, forms, trace)
+            } else {
+                ffi::run_bare(problem, BUDGET, forms, trace)
+            });
+        }
+        (ffi::thread_time() - start) as f64
+    };
+    // Calls in a batch, so that a batch of either takes a millisecond.
+    let calls = [0, 1].map(|who| {
+        let mut calls = 1;
+        while batch(who, calls) < 1e6 {
+            calls *= 2;
+        }
+        calls
+    });
+    let mut times = [Vec::new(), Vec::new()];
+    for round in 0..ROUNDS {
+        for turn in 0..2 {
+            let who = (round + turn) % 2;
+            times[who].push(batch(who, calls[who]) / calls[who] as f64);
+        }
+    }
+    let [separate, library] = times.map(median);
+    Row {
+        name,
+        terms: sheet.terms,
+        sets: sheet.sets.len(),
+        lines: sheet.lines.len(),
+        word,
+        separate,
+        library,
+    }
+}
+
 fn main() {
-    let problems: Vec<(&str, Draft)> = vec![
+    let mut forms = vec![0u8; 4_000_000];
+    let mut trace = vec![0u8; 4 * BUDGET as usize];
+    let mut rows = |problems: Vec<(&'static str, Draft)>| -> Vec<Row> {
+        problems.iter().map(|(name, draft)| measure(name, draft, &mut forms, &mut trace)).collect()
+    };
+
+    println!(
+        "{:26} {:>2} {:>1} {:>5} {:>8} {:>5} {:>5} | {:>11} {:>11} | {:>9} {:>9} | {:>6}",
+        "problem", "T", "S", "lines", "verdict", "steps", "forms",
+        "separate ns", "library ns", "sep/step", "lib/step", "lib÷sep"
+    );
+    let all = rows(vec![
         ("C1", c1()),
         ("C10", c10()),
         ("C11", c11()),
@@ -216,67 +301,43 @@ fn main() {
         ("7 names on 6 places", crowd(6, 7, 64)),
         ("dead unions of 11 names", dead_unions(11, 0)),
         ("dead unions of 11 names", dead_unions(11, 51)),
-    ];
-    let mut forms = vec![0u8; 4_000_000];
-    let mut trace = vec![0u8; 4 * BUDGET as usize];
-    println!(
-        "{:26} {:>2} {:>1} {:>5} {:>8} {:>5} {:>5} | {:>11} {:>11} | {:>9} {:>9} | {:>6}",
-        "problem", "T", "S", "lines", "verdict", "steps", "forms",
-        "separate ns", "library ns", "sep/step", "lib/step", "lib÷sep"
-    );
-    let mut logs = Vec::new();
-    for (name, draft) in problems {
-        let bytes = draft.bytes();
-        let Ok(sheet) = Sheet::read(&bytes) else { panic!("{name} is refused") };
-        let word = solver::run(&bytes, BUDGET, &mut forms, &mut trace);
-        assert_eq!(word, ffi::run_bare(&bytes, BUDGET, &mut forms, &mut trace), "{name}");
-
-        let mut batch = |who: usize, calls: usize| -> f64 {
-            let start = ffi::thread_time();
-            for _ in 0..calls {
-                let problem = black_box(&bytes[..]);
-                black_box(if who == 0 {
-                    solver::run(problem, BUDGET, &mut forms, &mut trace)
-                } else {
-                    ffi::run_bare(problem, BUDGET, &mut forms, &mut trace)
-                });
-            }
-            (ffi::thread_time() - start) as f64
-        };
-        // Calls in a batch, so that a batch of either takes a millisecond.
-        let calls = [0, 1].map(|who| {
-            let mut calls = 1;
-            while batch(who, calls) < 1e6 {
-                calls *= 2;
-            }
-            calls
-        });
-        let mut times = [Vec::new(), Vec::new()];
-        for round in 0..ROUNDS {
-            for turn in 0..2 {
-                let who = (round + turn) % 2;
-                times[who].push(batch(who, calls[who]) / calls[who] as f64);
-            }
-        }
-        let [separate, library] = times.map(median);
-        let steps = answer::steps(word).max(1) as f64;
-        logs.push((library / separate).ln());
+    ]);
+    for row in &all {
         println!(
             "{:26} {:>2} {:>1} {:>5} {:>8} {:>5} {:>5} | {:>11.0} {:>11.0} | {:>9.1} {:>9.1} | {:>6.2}",
-            name,
-            sheet.terms,
-            sheet.sets.len(),
-            sheet.lines.len(),
-            answer::NAMES[answer::verdict(word) as usize],
-            answer::steps(word),
-            answer::forms(word),
-            separate,
-            library,
-            separate / steps,
-            library / steps,
-            library / separate
+            row.name,
+            row.terms,
+            row.sets,
+            row.lines,
+            answer::NAMES[answer::verdict(row.word) as usize],
+            answer::steps(row.word),
+            answer::forms(row.word),
+            row.separate,
+            row.library,
+            row.separate / row.steps(),
+            row.library / row.steps(),
+            row.library / row.separate
         );
     }
-    let mean = (logs.iter().sum::<f64>() / logs.len() as f64).exp();
-    println!("geometric mean of library ÷ separate: {mean:.2}");
+    let mean = all.iter().map(|row| (row.library / row.separate).ln()).sum::<f64>() / all.len() as f64;
+    println!("geometric mean of library ÷ separate: {:.2}", mean.exp());
+
+    println!("\nhow the time of a step grows, in nanoseconds (separate, library)");
+    let grow = |what: &str, name: &str, rows: Vec<Row>, of: fn(&Row) -> usize| {
+        print!("with {what:12} {name:24}");
+        for row in rows {
+            print!(" | {:>5}: {:>5.0} {:>5.0}", of(&row), row.separate / row.steps(), row.library / row.steps());
+        }
+        println!();
+    };
+    let mut series = |what: &str, name: &'static str, of: fn(&Row) -> usize, drafts: Vec<Draft>| {
+        grow(what, name, rows(drafts.into_iter().map(|draft| (name, draft)).collect()), of)
+    };
+    let sizes = [8, 16, 32, 64];
+    series("terms", "climb, 48 lines", |row| row.terms, sizes.map(|t| climb(t, false)).into());
+    series("terms", "mixed, 48 lines", |row| row.terms, sizes.map(mixed).into());
+    series("terms", "7 names in a union", |row| row.terms, sizes.map(|t| unions(7, t - 7)).into());
+    series("constraints", "7 names in a union", |row| row.lines, [8, 12, 24, 48].map(padded).into());
+    series("steps", "names in a union, 13 T", |row| row.steps() as usize, [4, 7, 10, 13].map(|n| unions(n, 13 - n)).into());
+    series("steps", "witnesses, 13 T", |row| row.steps() as usize, [4, 7, 10, 13].map(|n| witnesses(n, 13 - n)).into());
 }

@@ -1,0 +1,3 @@
+pub mod Keeping
+pub mod Before
+pub mod Found

@@ -1,0 +1,4 @@
+pub mod RowRules
+pub mod NearLaws
+pub mod ByKind
+pub mod Passing
