@@ -1,10 +1,8 @@
 -- The code's constraint as the calculus has it.
 use mathlib.Core.Path.{_≡_}
-use mathlib.Core.Bool.{cond}
 use mathlib.Core.List.{List, map}
 use Prim.Native.Nat.{ℕ, _≤_}
 use lib.ListN.{length}
-use lib.Dec.{eqb}
 use Rattle.calculus.specs.Terms.{Term, term, setVar}
 use Rattle.calculus.specs.Relations as relations
 use Rattle.calculus.specs.Meaning as calculus
@@ -38,10 +36,6 @@ decoded es (Related k A B C) = calculus.relation (relationOf k) (setVar (A .0)) 
 decoded es (Negated k A B C w) = calculus.negation (negationOf k) (setVar (A .0)) (setVar (B .0)) (setVar (C .0)) (term (w .0))
 decoded es (Exactly A) = calculus.exactly (setVar (A .0)) es
 decoded es (Interval A i j) = calculus.interval (setVar (A .0)) (term (i .0)) (term (j .0))
-
--- the third set of a relation of kind k with the operands p and s, its first and third: only kinds 7 and 10 write one
-abbrev pub thirdOf : (k p s : ℕ) → ℕ
-thirdOf k p s = cond (eqb k 7) s (cond (eqb k 10) s p)
 
 -- a constraint l that the code handles, with its entries: its terms are below 64 and its sets below 8
 pub record Handled (es : List ℕ) (l : Constraint) : Type 0 where

@@ -4,12 +4,11 @@ use problem::entries;
 use terms::SetVar;
 use terms::Term;
 ghost use mathlib.Core.Path.{_≡_};
-ghost use Prim.Native.Nat.{_+_, _<_, _≤_};
-ghost use lib.ListN.{length, getD};
+ghost use Prim.Native.Nat.{_<_};
 ghost use Rattle.calculus.specs.Lists.{upFrom};
 ghost use Rattle.calculus.specs.Terms.{term};
 ghost use Rattle.problem.specs.Table.{Opened, Stands, constraintOf, listed, witnessOf};
-ghost use Rattle.constraints.specs.Decoded.{decoded, thirdOf, Unpacked};
+ghost use Rattle.constraints.specs.Decoded.{decoded, Unpacked};
 
 // The relations between sets, and those that a constraint can deny.
 pub enum Relation {
@@ -79,21 +78,6 @@ pub fn decode_at(problem: &[u8], i: usize, at: usize, w: u8) -> Constraint
         return Constraint::Related(Relation::Intersection, SetVar(p), SetVar(q), SetVar(s));
     }
     Constraint::Interval(SetVar(p), Term(q), Term(s))
-}
-
-// The third operand of a relation of kind 7 or 10, which stands at an offset; of any other constraint the first.
-pub fn third(problem: &[u8], at: usize) -> u8
-    requires { ⌜ (at + 1 < length (now problem)) × (length (now problem) ≤ 4096) × (getD (now problem) at 0 ≡ 7 → at + 3 < length (now problem)) × (getD (now problem) at 0 ≡ 10 → at + 3 < length (now problem)) ⌝ }
-    ensures { λ r. ⌜ r ≡ thirdOf (getD (now (problem .entry)) at 0) (getD (now (problem .entry)) (at + 1) 0) (getD (now (problem .entry)) (at + 3) 0) ⌝ }
-{
-    let k = problem[at];
-    if k == 7 {
-        return problem[at + 3];
-    }
-    if k == 10 {
-        return problem[at + 3];
-    }
-    problem[at + 1]
 }
 
 // Constraint i.

@@ -188,7 +188,7 @@ early s e j k m (inl r) = omega (arith, r .1)
 early s e j k m (inr r) = omega (arith, r .1)
 
 -- the rules of a relation
-pub row-guards : (n : ℕ) (b : Branch) → Falls (b .parents) → n ≤ 64 → (k : Relation) (A B C : SetVar) (j : ℕ) → RuleOf (relation k A B C) j → Guards n b (relation k A B C) j (rowGuard n (by (2 ^ A .index) (2 ^ B .index) (2 ^ C .index)) (numbered j))
+row-guards : (n : ℕ) (b : Branch) → Falls (b .parents) → n ≤ 64 → (k : Relation) (A B C : SetVar) (j : ℕ) → RuleOf (relation k A B C) j → Guards n b (relation k A B C) j (rowGuard n (by (2 ^ A .index) (2 ^ B .index) (2 ^ C .index)) (numbered j))
 row-guards n b fall few k A B C j r =
     let s = row-number k A B C j r in
     roots-guards n b fall few (relation k A B C) j (omega (arith, s .1)) refl _ _ _ _

@@ -1,18 +1,15 @@
 -- The first root whose class meets a guard's masks, and the guard from there on.
-use mathlib.Core.Path.{_≡_, refl, sym, ap, ap₂, _∙_}
-use mathlib.Core.Bool.{Bool, true, false, _&&_, _||_, not, cond, or-false, true≢false}
+use mathlib.Core.Path.{_≡_, refl, ap, ap₂, _∙_}
+use mathlib.Core.Bool.{Bool, true, false, cond}
 use mathlib.Core.List.{List, []}
 use Prim.Native.Nat.{ℕ, zero, suc, _+_, _-_, _<_, _≤_}
 use native.Mathlib.Omega.{arith}
 use native.Mathlib.Decide.{decLt}
 use lib.ListN.{getD}
-use lib.Dec.{eqb}
-use lib.Bits.{bitOr}
 use borrow.Author.Tests.{eq-eqb, ne-eqb}
-use Rattle.calculus.specs.Lists.{upFrom, any, first}
+use Rattle.calculus.specs.Lists.{upFrom, first}
 use Rattle.calculus.specs.Meaning.{Constraint}
 use Rattle.calculus.specs.Branch.{Branch}
-use Rattle.questions.proofs.Constants.{up-more, up-done}
 use Rattle.branch.proofs.Roots.{getD-any}
 use Rattle.places.specs.Places.{entriesOf}
 use Rattle.guards.specs.declared.Guard.{Guard}
@@ -21,22 +18,21 @@ use Rattle.guards.specs.Guarded.{branchOf, meets, rootMeets, FirstOf, pa
 -- ---- one root
 
 module _ {n : ℕ} {ps is os : List ℕ} (s : Standing n ps is os) (g : Guard) (h : ℕ) (l : h < 64) where
-  abbrev here : ℕ → ℕ → ℕ
-  here x y = cond (rootMeets g (branchOf ps is os) h) x y
+  abbrev here : ℕ
+  here = cond (rootMeets g (branchOf ps is os) h) h 64
 
   parent-is : getD ps h h ≡ getD ps h 0
   parent-is = getD-any ps h h 0 (omega (arith, s .sized))
 
-  module _ (x y : ℕ) where
-    pub no-root : ¬ (getD ps h 0 ≡ h) → y ≡ here x y
-    no-root q = rw (parent-is, ne-eqb (getD ps h 0) h q) refl
+  pub no-root : ¬ (getD ps h 0 ≡ h) → 64 ≡ here
+  no-root q = rw (parent-is, ne-eqb (getD ps h 0) h q) refl
 
-    module _ (q : getD ps h 0 ≡ h) (t : Bool) (f : t ≡ meets g (branchOf [] is os) h) where
-      pub root-fits : t ≡ true → x ≡ here x y
-      root-fits z = rw (parent-is, eq-eqb (getD ps h 0) h q, ← f, z) refl
+  module _ (q : getD ps h 0 ≡ h) (t : Bool) (f : t ≡ meets g (branchOf [] is os) h) where
+    pub root-fits : t ≡ true → h ≡ here
+    root-fits z = rw (parent-is, eq-eqb (getD ps h 0) h q, ← f, z) refl
 
-      pub root-misses : t ≡ false → y ≡ here x y
-      root-misses z = rw (parent-is, eq-eqb (getD ps h 0) h q, ← f, z) refl
+    pub root-misses : t ≡ false → 64 ≡ here
+    root-misses z = rw (parent-is, eq-eqb (getD ps h 0) h q, ← f, z) refl
 
 -- ---- the lowest of the first h that passes a test, or 64
 
@@ -108,59 +104,3 @@ raise n b l j g h o z k f = record {
 
     all : g .end - 0 ≡ g .end
     all = omega arith
-
--- ---- whether there is one
-
-pub none-any : (P : ℕ → Bool) (s m : ℕ) → any P (upFrom s m) ≡ false → (p : ℕ) → s ≤ p → p < s + m → P p ≡ false
-none-any P s zero e p a l = absurd (omega arith)
-none-any P s (suc m) e p a l = go (P s) refl (decLt s p) (λ f h. none-any P (suc s) m f p h (omega arith))
-  where
-    go : (x : Bool) → P s ≡ x → Dec (s < p) → (any P (upFrom (suc s) m) ≡ false → s < p → P p ≡ false) → P p ≡ false
-    go true q d ih = absurd (true≢false (rw q at e))
-    go false q (yes h) ih = ih (rw q at e) h
-    go false q (no h) ih = let z : p ≡ s = omega arith in ap P z ∙ q
-
--- among one more
-or-assoc : (a b c : Bool) → ((a || b) || c) ≡ (a || (b || c))
-or-assoc true b c = refl
-or-assoc false b c = refl
-
-any-more : (P : ℕ → Bool) (s m : ℕ) → any P (upFrom s (m + 1)) ≡ (any P (upFrom s m) || P (s + m))
-any-more P s zero = let z : s ≡ s + 0 = omega arith in or-false (P s) ∙ ap P z
-any-more P s (suc m) =
-    let z : suc s + m ≡ s + suc m = omega arith in
-    let n : suc m + 1 ≡ suc (m + 1) = omega arith in
-    rw n (ap (λ (x : Bool). P s || x) (any-more P (suc s) m ∙ ap (λ (k : ℕ). any P (upFrom (suc s) m) || P k) z) ∙ sym (or-assoc (P s) (any P (upFrom (suc s) m)) (P (s + suc m))))
-
-either-one : (a b : Bool) → bitOr (cond a 1 0) (cond b 1 0) ≡ cond (a || b) 1 0
-either-one true true = refl
-either-one true false = refl
-either-one false true = refl
-either-one false false = refl
-
-pub found-more : (P : ℕ → Bool) (h found c : ℕ) → found ≡ cond (any P (upFrom 0 h)) 1 0 → c ≡ cond (P h) 1 0 → bitOr found c ≡ cond (any P (upFrom 0 (h + 1))) 1 0
-found-more P h found c e q =
-    let z : 0 + h ≡ h = omega arith in
-    rw (e, q) (either-one (any P (upFrom 0 h)) (P h)) ∙ ap (λ (x : Bool). cond x 1 0) (ap (λ (k : ℕ). any P (upFrom 0 h) || P k) (sym z) ∙ sym (any-more P 0 h))
-
-pub found-any : (a : Bool) (found : ℕ) → found ≡ cond a 1 0 → not (eqb found 0) ≡ a
-found-any true found e = rw e refl
-found-any false found e = rw e refl
-
--- the rules from j up to the end
-module _ (P : ℕ → Bool) (j end : ℕ) where
-  abbrev from : Bool
-  from = any P (upFrom j (end - j))
-
-  pub met-here : j < end → P j ≡ true → true ≡ from
-  met-here l e = rw (up-more j end l, e) refl
-
-  pub unmet-here : j < end → P j ≡ false → from ≡ any P (upFrom (j + 1) (end - (j + 1)))
-  unmet-here l e = rw (up-more j end l, e) refl
-
-  pub met-nowhere : end ≤ j → false ≡ from
-  met-nowhere l = rw (up-done j end l) refl
-
--- of a guard that is another
-pub some-at : (g h : Guard) (b : Branch) (r : Bool) → g ≡ h → r ≡ any (rootMeets g b) (upFrom 0 64) → any (rootMeets h b) (upFrom 0 64) ≡ r
-some-at g h b r e q = ap (λ (x : Guard). any (rootMeets x b) (upFrom 0 64)) (sym e) ∙ sym q

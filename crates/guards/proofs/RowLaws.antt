@@ -15,7 +15,7 @@ use Rattle.calculus.specs.Terms.{SetVar, term}
 use Rattle.calculus.specs.Relations.{Rule, applies, Relation, equal, union, disjoint, subset, intersection, Operand, Literal}
 use Rattle.calculus.specs.Relations as R
 use Rattle.calculus.specs.Meaning.{relation}
-use Rattle.calculus.specs.Branch.{Branch, rootAt, inside, outside, In, Out, known}
+use Rattle.calculus.specs.Branch.{Branch, rootAt, inside, outside, known}
 use Rattle.calculus.specs.Search.{operandOf, factOf, at}
 use Rattle.calculus.proofs.Bools.{clash, test, and-l, and-r, and-i, or-l, or-r, or-cases, imp-at, same-test, every3, every3-at}
 use Rattle.calculus.proofs.Masks.{bit-or, bit-and, bit-zero, bit-pow}

@@ -1,11 +1,10 @@
 -- The masks by which the code tests a place.
 use mathlib.Core.Path.{_≡_}
-use mathlib.Core.Logic.{_⊎_}
 use mathlib.Core.Bool.{Bool, true, false, _&&_, _||_, not, cond}
 use mathlib.Core.List.{List, [], _∷_, _++_}
-use Prim.Native.Nat.{ℕ, suc, _-_, _^_, _≤_, _<_}
+use Prim.Native.Nat.{ℕ, suc, _-_, _≤_, _<_}
 use lib.ListN.{length, getD}
-use lib.Dec.{eqb, ltb}
+use lib.Dec.{eqb}
 use lib.Bits.{bitAnd, bitOr}
 use Rattle.calculus.specs.Lists.{upFrom, any, gather, first}
 use Rattle.calculus.specs.Terms.{Term, term, setVar}
@@ -14,7 +13,7 @@ use Rattle.calculus.specs.Relations as R
 use Rattle.calculus.specs.Meaning.{Constraint}
 use Rattle.calculus.specs.Branch.{Branch, rootAt, In, Out, Same, known}
 use Rattle.calculus.specs.Invariants.{Falls}
-use Rattle.calculus.proofs.Tables.{rows, by}
+use Rattle.calculus.proofs.Tables.{rows}
 use Rattle.problem.specs.Table.{kindOf}
 use Rattle.places.specs.Places.{spanOf, entriesOf, firstAt}
 use Rattle.guards.specs.declared.Guard.{Guard}
@@ -120,38 +119,24 @@ numbered j = getD (rows equal ++ negationRow unequal ∷ rows union ++ rows disj
 
 -- ---- constraints that have nothing to do
 
--- of sets with masks x, y and z: some root's class meets the guard of a rule from first up to end
-abbrev pub rowsMet : Branch → (first end x y z : ℕ) → Bool
-rowsMet b first end x y z = any (λ (j : ℕ). any (rootMeets (rowGuard 64 (by x y z) (numbered j)) b) (upFrom 0 64)) (upFrom first (end - first))
-
--- no rule from first up to end applies: what a constraint of kind 1 to 4 on p and q says is known; or (kind 6) the witness w is known in one of the sets p and q and out of the other; or, of 8 terms or more, no class meets a guard of the relation (kinds 5 and 7 to 10) of the sets p, q and s
-abbrev pub quiet : Branch → (n kind p q s w first end : ℕ) → Bool
-quiet b n kind p q s w first end =
+-- a constraint has nothing to do, by a test or two: of kind 1 to 4, what it says of p and q is known (kind 4: is not known to be false); of kind 6, the witness w is known in one of the sets p and q and out of the other; any other kind is not asked
+abbrev pub quiet : Branch → (kind p q w : ℕ) → Bool
+quiet b kind p q w =
     getD (
     false
     ∷ known b (In (term p) (setVar q))
     ∷ known b (Out (term p) (setVar q))
     ∷ known b (Same (term p) (term q))
     ∷ not (known b (Same (term p) (term q)))
-    ∷ not (ltb n 8 || rowsMet b first end (2 ^ p) (2 ^ q) (2 ^ s))
+    ∷ false
     ∷ (known b (In (term w) (setVar p)) && known b (Out (term w) (setVar q)) || known b (Out (term w) (setVar p)) && known b (In (term w) (setVar q)))
-    ∷ not (ltb n 8 || rowsMet b first end (2 ^ p) (2 ^ q) (2 ^ s))
-    ∷ not (ltb n 8 || rowsMet b first end (2 ^ p) (2 ^ q) (2 ^ s))
-    ∷ not (ltb n 8 || rowsMet b first end (2 ^ p) (2 ^ q) (2 ^ s))
-    ∷ not (ltb n 8 || rowsMet b first end (2 ^ p) (2 ^ q) (2 ^ s))
     ∷ []
     ) kind false
 
--- the kinds of relations
-abbrev pub RowKind : ℕ → Type 0
-RowKind kind = (kind ≡ 5) ⊎ (kind ≡ 7) ⊎ (kind ≡ 8) ⊎ (kind ≡ 9) ⊎ (kind ≡ 10)
-
--- the operands of such a constraint are terms below 64 and sets below 8, and the rules of a relation are 5 to 18, but 7
-pub record Reaching (kind p q s w first end : ℕ) : Type 0 where
+-- the operands of such a constraint are terms below 64 and sets below 8
+pub record Reaching (kind p q w : ℕ) : Type 0 where
   pub in-set : kind ≡ 1 → (p < 64) × (q < 8)
   pub out-of-set : kind ≡ 2 → (p < 64) × (q < 8)
   pub alike : kind ≡ 3 → (p < 64) × (q < 64)
   pub apart : kind ≡ 4 → (p < 64) × (q < 64)
   pub denied : kind ≡ 6 → (p < 8) × (q < 8) × (w < 64)
-  pub related : RowKind kind → (p < 8) × (q < 8) × (s < 8)
-  pub ruled : RowKind kind → (j : ℕ) → first ≤ j → j < end → (5 ≤ j) × (j ≤ 18) × ¬ (j ≡ 7)

@@ -7,10 +7,10 @@ use terms::Term;
 ghost use mathlib.Core.Path.{_≡_};
 ghost use mathlib.Core.Bool.{cond, _&&_, _||_};
 ghost use mathlib.Core.List.{[], map};
-ghost use Prim.Native.Nat.{ℕ, _≤_, _<_};
+ghost use Prim.Native.Nat.{_≤_, _<_};
 ghost use lib.ListN.{length};
 ghost use lib.Dec.{eqb};
-ghost use Rattle.calculus.specs.Lists.{upFrom, any, Each};
+ghost use Rattle.calculus.specs.Lists.{any, Each};
 ghost use Rattle.calculus.specs.Terms.{term};
 ghost use Rattle.calculus.specs.Branch.{rootAt};
 ghost use Rattle.calculus.specs.Invariants.{Falls};
@@ -18,7 +18,7 @@ ghost use Rattle.constraints.specs.Decoded.{decoded, Handled};
 ghost use Rattle.places.specs.Places.{RuleOf};
 ghost use Rattle.calculus.proofs.Tables.{by};
 ghost use Rattle.branch.specs.Held.{rootOf};
-ghost use Rattle.guards.specs.Guarded.{Spanned, rowsMet, quiet, Reaching, branchOf, meets, rootMeets, FirstOf, passes, Standing, Guards, below, only, unless, both, decided, listGuard, numbered, rowGuard};
+ghost use Rattle.guards.specs.Guarded.{Spanned, quiet, Reaching, branchOf, meets, rootMeets, FirstOf, passes, Standing, Guards, below, only, unless, both, decided, listGuard, numbered, rowGuard};
 
 // Rules by number, from the first up to the end.
 pub struct Span {
@@ -357,73 +357,10 @@ pub fn guard_at(
     }
 }
 
-// 1 if h is a root whose class meets the masks; otherwise 0.
-fn fitted(g: Guard, parents: &[u8], insides: &[u8], outsides: &[u8], h: usize) -> u8
-    requires { ⌜ Standing 64 (now parents) (now insides) (now outsides) × (h < 64) ⌝ }
-    ensures { λ r. ⌜ r ≡ cond (rootMeets g (branchOf (now (parents .entry)) (now (insides .entry)) (now (outsides .entry))) h) 1 0 ⌝ }
-{
-    let k = h as u8;
-    let p = parents[h];
-    let fit = fits(g, insides, outsides, h);
-    if p != k {
-        return 0;
-    }
-    if fit {
-        return 1;
-    }
-    0
-}
-
-// Whether some root's class meets the masks. As in first_fit the loop has no way out.
-fn some_fit(g: Guard, parents: &[u8], insides: &[u8], outsides: &[u8]) -> bool
-    requires { ⌜ Standing 64 (now parents) (now insides) (now outsides) ⌝ }
-    ensures { λ r. ⌜ r ≡ any (rootMeets g (branchOf (now (parents .entry)) (now (insides .entry)) (now (outsides .entry)))) (upFrom 0 64) ⌝ }
-{
-    let mut found = 0u8;
-    for h in 0..64 {
-        found = found | fitted(g, parents, insides, outsides, h);
-    }
-    found != 0
-}
-
-// Whether some root's class meets the guard of a rule from first up to the end, of sets with masks x, y and z.
-fn rows_met(
-    parents: &[u8],
-    insides: &[u8],
-    outsides: &[u8],
-    first: u8,
-    end: u8,
-    x: u8,
-    y: u8,
-    z: u8,
-) -> bool
-    requires { ⌜ Standing 64 (now parents) (now insides) (now outsides) × ((j : ℕ) → first ≤ j → j < end → (5 ≤ j) × (j ≤ 18) × ¬ (j ≡ 7)) ⌝ }
-    ensures { λ r. ⌜ r ≡ rowsMet (branchOf (now (parents .entry)) (now (insides .entry)) (now (outsides .entry))) first end x y z ⌝ }
-{
-    for j in first..end {
-        let g = row(j, 64, x, y, z);
-        if some_fit(g, parents, insides, outsides) {
-            return true;
-        }
-    }
-    false
-}
-
-// Whether a constraint of kind 1 to 10 has nothing to do by its rules: what it says of p and q is known, or of its witness w, or no root's class meets a guard of the relation of p, q and s. Of few terms a relation is not asked: its rules are soon tested.
-pub fn idle(
-    parents: &[u8],
-    insides: &[u8],
-    outsides: &[u8],
-    terms: u8,
-    kind: u8,
-    p: u8,
-    q: u8,
-    s: u8,
-    w: u8,
-    span: Span,
-) -> bool
-    requires { ⌜ Standing 64 (now parents) (now insides) (now outsides) × Reaching kind p q s w (span .first) (span .end) ⌝ }
-    ensures { λ r. ⌜ r ≡ quiet (branchOf (now (parents .entry)) (now (insides .entry)) (now (outsides .entry))) terms kind p q s w (span .first) (span .end) ⌝ }
+// Whether a constraint has nothing to do, by a test or two: of kind 1 to 4, if what it says of p and q is known (kind 4: is not known to be false); of kind 6, if its witness w is known in one of the sets p and q and out of the other. Of any other kind this is not asked.
+pub fn idle(parents: &[u8], insides: &[u8], outsides: &[u8], kind: u8, p: u8, q: u8, w: u8) -> bool
+    requires { ⌜ Standing 64 (now parents) (now insides) (now outsides) × Reaching kind p q w ⌝ }
+    ensures { λ r. ⌜ r ≡ quiet (branchOf (now (parents .entry)) (now (insides .entry)) (now (outsides .entry))) kind p q w ⌝ }
 {
     match kind {
         1 => {
@@ -441,22 +378,6 @@ pub fn idle(
             let i = insides[h];
             let o = outsides[h];
             apart(has(i, p), has(o, q), has(o, p), has(i, q))
-        }
-        5 | 7 | 8 | 9 | 10 => {
-            if terms < 8 {
-                return false;
-            }
-            let met = rows_met(
-                parents,
-                insides,
-                outsides,
-                span.first,
-                span.end,
-                1 << p,
-                1 << q,
-                1 << s,
-            );
-            !met
         }
         _ => false,
     }

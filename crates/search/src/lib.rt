@@ -1,7 +1,6 @@
 // The first place where a rule applies.
 use constraints::decode_at;
 use constraints::list_at;
-use constraints::third;
 use guards::applies;
 use guards::guard_at;
 use guards::idle;
@@ -82,9 +81,8 @@ pub fn search<'a>(
         if span.first < end {
             let p = problem[at + 1];
             let q = problem[at + 2];
-            let s = third(problem, at);
             let w = witnesses[n];
-            if !idle(parents, insides, outsides, terms, kind, p, q, s, w, span) {
+            if !idle(parents, insides, outsides, kind, p, q, w) {
                 let l = decode_at(problem, n, at, w);
                 let entries = list_at(problem, numbers, n, at, l);
                 for j in span.first..end {

@@ -1,6 +1,6 @@
-use mathlib.Core.Path.{_≡_, sym, subst}
+use mathlib.Core.Path.{sym, subst}
 use mathlib.Core.Logic.{⊎-elim}
-use Prim.Native.Nat.{ℕ, _+_, _-_, _≤_}
+use Prim.Native.Nat.{_+_, _-_, _≤_}
 use native.Mathlib.Omega.{arith}
 use Rattle.guards.specs.Guarded.{branchOf, rootMeets}
 use Rattle.guards.proofs.Raising.{Lowest, lowest-start, lowest-lower, lowest-same, lowest-end}

@@ -15,17 +15,17 @@ fits-requires c κs = search needs
 returns : tie.Need-returns
 returns c =
     let s = c .before .before .before .before .before .before in
-    no-root (s .pre .0) (s .args .g) (s .args .h) (s .pre .1) (s .args .h) 64 (c .if1 .taken)
+    no-root (s .pre .0) (s .args .g) (s .args .h) (s .pre .1) (c .if1 .taken)
 
 returns-2 : tie.Need-returns-2
 returns-2 c =
     let s = c .before .before .before .before .before .before .before in
-    root-fits (s .pre .0) (s .args .g) (s .args .h) (s .pre .1) (s .args .h) 64 (c .before .if1 .left) _ (c .before .before .fits2 .ensures) (c .if2 .taken)
+    root-fits (s .pre .0) (s .args .g) (s .args .h) (s .pre .1) (c .before .if1 .left) _ (c .before .before .fits2 .ensures) (c .if2 .taken)
 
 returns-3 : tie.Need-returns-3
 returns-3 c =
     let s = c .before .before .before .before .before .before .before in
-    root-misses (s .pre .0) (s .args .g) (s .args .h) (s .pre .1) (s .args .h) 64 (c .before .if1 .left) _ (c .before .before .fits2 .ensures) (c .if2 .left)
+    root-misses (s .pre .0) (s .args .g) (s .args .h) (s .pre .1) (c .before .if1 .left) _ (c .before .before .fits2 .ensures) (c .if2 .left)
 
 pub fitting-spec : {M : Type 1} → statement M
 fitting-spec =

@@ -1,10 +1,8 @@
 use mathlib.Core.Path.{ap, _∙_}
 use mathlib.Core.Bool.{not}
-use mathlib.Core.Logic.{⊎-elim, inl}
 use borrow.Author.Needs.{needs}
-use Rattle.guards.specs.Guarded.{branchOf, RowKind}
-use Rattle.guards.proofs.Idling.{walked, masked, found-in, found-out, found-same, both-ways, row-few, row-known, none-low, none-high, row-kind}
-use Rattle.guards.proofs.GuardLaws.{mask-of}
+use Rattle.guards.specs.Guarded.{branchOf}
+use Rattle.guards.proofs.Idling.{walked, masked, found-in, found-out, found-same, both-ways, not-asked}
 use Rattle.guards.proofs.idle.Statement.{statement}
 use Rattle.guards.proofs.idle.Tie as tie
 
@@ -62,43 +60,20 @@ has-requires-6 c κs = let s = c .before .before .before .before .before .before
 apart-requires : tie.Need-apart-requires
 apart-requires c κs = search needs
 
--- the constraint is a relation
-is-row : (c : tie.At-match-came) → RowKind (c .before .before .before .before .args .kind)
-is-row c =
-    ⊎-elim
-    (λ w. inl (w .keys6))
-    (λ w. let r = w .0 .rest in row-kind _ (r .0 .0 .0 .0 .0 .1) (r .0 .0 .0 .0 .1) (r .0 .0 .0 .1) (r .0 .0 .1) (r .0 .1) (w .1 .left) (w .2 .taken))
-    (c .match .came)
-
 returns : tie.Need-returns
-returns c = let a = c .before .before .before .before .before .args in row-few (branchOf (a .parents .now) (a .insides .now) (a .outsides .now)) (a .terms) (a .kind) (a .p) (a .q) (a .s) (a .w) (a .span .first) (a .span .end) (is-row (c .before)) (c .if3 .taken)
-
-shl-rows-met : tie.Need-shl-rows-met
-shl-rows-met c = c .before .before .before .before .before .pre .1 .related (is-row (c .before)) .0
-
-shl-rows-met-2 : tie.Need-shl-rows-met-2
-shl-rows-met-2 c = c .before .before .before .before .before .pre .1 .related (is-row (c .before)) .1
-
-shl-rows-met-3 : tie.Need-shl-rows-met-3
-shl-rows-met-3 c = c .before .before .before .before .before .pre .1 .related (is-row (c .before)) .2
-
-rows-met-requires : tie.Need-rows-met-requires
-rows-met-requires c κs = (c .before .before .before .before .before .pre .0, c .before .before .before .before .before .pre .1 .ruled (is-row (c .before)))
+returns c = let s = c .before .before .before .before .before .before .before in rw (c .before .before .before .match .keys1) (found-in (s .pre .0) (s .args .p) _ (c .before .before .find .ensures) (s .args .q) _ (c .has .ensures))
 
 returns-2 : tie.Need-returns-2
-returns-2 c = let s = c .before .before .before .before .before .before .before in rw (c .before .before .before .match .keys1) (found-in (s .pre .0) (s .args .p) _ (c .before .before .find .ensures) (s .args .q) _ (c .has .ensures))
+returns-2 c = let s = c .before .before .before .before .before .before .before in rw (c .before .before .before .match .keys2) (found-out (s .pre .0) (s .args .p) _ (c .before .before .find2 .ensures) (s .args .q) _ (c .has2 .ensures))
 
 returns-3 : tie.Need-returns-3
-returns-3 c = let s = c .before .before .before .before .before .before .before in rw (c .before .before .before .match .keys2) (found-out (s .pre .0) (s .args .p) _ (c .before .before .find2 .ensures) (s .args .q) _ (c .has2 .ensures))
+returns-3 c = let s = c .before .before .before .before .before .before in rw (c .before .before .match .keys3) (found-same (s .pre .0) (s .args .p) _ (c .before .find3 .ensures) (s .args .q) _ (c .find4 .ensures))
 
 returns-4 : tie.Need-returns-4
-returns-4 c = let s = c .before .before .before .before .before .before in rw (c .before .before .match .keys3) (found-same (s .pre .0) (s .args .p) _ (c .before .find3 .ensures) (s .args .q) _ (c .find4 .ensures))
+returns-4 c = let s = c .before .before .before .before .before .before in rw (c .before .before .match .keys4) (ap not (found-same (s .pre .0) (s .args .p) _ (c .before .find5 .ensures) (s .args .q) _ (c .find6 .ensures)))
 
 returns-5 : tie.Need-returns-5
-returns-5 c = let s = c .before .before .before .before .before .before in rw (c .before .before .match .keys4) (ap not (found-same (s .pre .0) (s .args .p) _ (c .before .find5 .ensures) (s .args .q) _ (c .find6 .ensures)))
-
-returns-6 : tie.Need-returns-6
-returns-6 c =
+returns-5 c =
     let s = c .before .before .before .before .before .before .before .before .before .before .before .before in
     let f = c .before .before .before .before .before .before .before .find7 .ensures in
     rw (c .before .before .before .before .before .before .before .before .match .keys5)
@@ -109,19 +84,11 @@ returns-6 c =
     (found-out (s .pre .0) (s .args .w) _ f (s .args .p) _ (c .before .before .has5 .ensures))
     (found-in (s .pre .0) (s .args .w) _ f (s .args .q) _ (c .before .has6 .ensures)))
 
-returns-7 : tie.Need-returns-7
-returns-7 c = let a = c .before .before .before .before .before .args in none-low (branchOf (a .parents .now) (a .insides .now) (a .outsides .now)) (a .terms) (a .kind) (a .p) (a .q) (a .s) (a .w) (a .span .first) (a .span .end) (c .if1 .taken)
-
-returns-8 : tie.Need-returns-8
-returns-8 c = let a = c .before .before .before .before .before .before .args in none-high (branchOf (a .parents .now) (a .insides .now) (a .outsides .now)) (a .terms) (a .kind) (a .p) (a .q) (a .s) (a .w) (a .span .first) (a .span .end) (c .if2 .left)
-
-returns-9 : tie.Need-returns-9
-returns-9 c =
-    let s = c .before .before .before .before .before .before in
-    let k = is-row (c .before .before) in
-    let l = s .pre .1 .related k in
-    let a = s .args in
-    row-known (branchOf (a .parents .now) (a .insides .now) (a .outsides .now)) (a .terms) (a .kind) (a .p) (a .q) (a .s) (a .w) (a .span .first) (a .span .end) k (c .before .if3 .left) _ _ _ (mask-of (l .0)) (mask-of (l .1)) (mask-of (l .2)) _ (c .rows-met .ensures)
+returns-6 : tie.Need-returns-6
+returns-6 c =
+    let a = c .before .before .before .before .args in
+    let r = c .match .rest in
+    not-asked (branchOf (a .parents .now) (a .insides .now) (a .outsides .now)) (a .kind) (a .p) (a .q) (a .w) (r .0 .0 .0 .0 .1) (r .0 .0 .0 .1) (r .0 .0 .1) (r .0 .1) (r .1)
 
 pub idle-spec : {M : Type 1} → statement M
 idle-spec =
@@ -146,15 +113,8 @@ idle-spec =
     has-requires-6
     apart-requires
     returns
-    shl-rows-met
-    shl-rows-met-2
-    shl-rows-met-3
-    rows-met-requires
     returns-2
     returns-3
     returns-4
     returns-5
-    returns-6
-    returns-7
-    returns-8
-    returns-9)
+    returns-6)

@@ -1,5 +1,5 @@
 use mathlib.Core.Path.{_≡_, refl, sym, ap, _∙_}
-use mathlib.Core.Logic.{⊎-elim, inl, inr}
+use mathlib.Core.Logic.{⊎-elim}
 use mathlib.Core.List.{map}
 use Prim.Native.Nat.{_-_, _<_}
 use native.Mathlib.Omega.{arith}
@@ -8,9 +8,9 @@ use borrow.Author.Needs.{needs}
 use borrow.Author.Tests.{not-false}
 use Rattle.calculus.specs.Terms.{term}
 use Rattle.calculus.specs.Reading.{read}
-use Rattle.problem.specs.Table.{Stands, constraintsOf, noConstraint, witnessOf}
+use Rattle.problem.specs.Table.{Stands, constraintsOf, witnessOf}
 use Rattle.problem.proofs.Access.{constraint-count}
-use Rattle.constraints.proofs.Decoding.{stands-there, two-operands, third-there}
+use Rattle.constraints.proofs.Decoding.{stands-there, two-operands}
 use Rattle.guards.specs.Guarded.{branchOf, passes}
 use Rattle.search.specs.declared.Place.{Place}
 use Rattle.search.proofs.Finding.{AtConstraint, AtRule, AtPosition, constraint-in, standing-64, entries-below, guarded-entry, kind-is, no-rules, rules-start, rule-here, positions-start, next-position, next-rule, next-constraint, search-over, search-hit}
@@ -20,19 +20,19 @@ use Rattle.search.proofs.search.Statement.{statement}
 use Rattle.search.proofs.search.Tie as tie
 
 abbrev Inv-loop2 : tie.InvT-loop2
-Inv-loop2 problem numbers offsets witnesses parents insides outsides split from root terms count found start place₀ i n off kind end op1 op2 op3 w l entries j guard last p₀ place p =
+Inv-loop2 problem numbers offsets witnesses parents insides outsides split from root terms count found start place₀ i n off kind end op1 op2 w l entries j guard last p₀ place p =
     (place .rule ≡ 0) × AtPosition split terms (constraintsOf (read problem)) (branchOf parents insides outsides) i j end (passes guard (branchOf parents insides outsides) (map term entries) j) p last
 
 abbrev μ-loop2 : tie.MeasureT-loop2
-μ-loop2 problem numbers offsets witnesses parents insides outsides split from root terms count found start place₀ i n off kind end op1 op2 op3 w l entries j guard last p₀ place p =
+μ-loop2 problem numbers offsets witnesses parents insides outsides split from root terms count found start place₀ i n off kind end op1 op2 w l entries j guard last p₀ place p =
     last - p
 
 abbrev Inv-loop : tie.InvT-loop
-Inv-loop problem numbers offsets witnesses parents insides outsides split from root terms count found start place₀ i n off kind end op1 op2 op3 w l entries j₀ place j =
+Inv-loop problem numbers offsets witnesses parents insides outsides split from root terms count found start place₀ i n off kind end op1 op2 w l entries j₀ place j =
     (place .rule ≡ 0) × AtRule split terms (constraintsOf (read problem)) (branchOf parents insides outsides) i j end
 
 abbrev μ-loop : tie.MeasureT-loop
-μ-loop problem numbers offsets witnesses parents insides outsides split from root terms count found start place₀ i n off kind end op1 op2 op3 w l entries j₀ place j =
+μ-loop problem numbers offsets witnesses parents insides outsides split from root terms count found start place₀ i n off kind end op1 op2 w l entries j₀ place j =
     end - j
 
 abbrev Inv-search : tie.InvT-search
@@ -92,38 +92,29 @@ add-q c = omega (arith, two-operands _ _ _ (stands (c .before .before .before .b
 shared-slice-read-q : tie.Need-shared-slice-read-q Inv-loop2 μ-loop2 Inv-loop μ-loop Inv-search μ-search
 shared-slice-read-q c = omega (arith, two-operands _ _ _ (stands (c .before .before .before .before .before .before .before) .1))
 
-third-requires : tie.Need-third-requires Inv-loop2 μ-loop2 Inv-loop μ-loop Inv-search μ-search
-third-requires c κs =
-    let h = stands (c .before .before .before .before .before .before .before) .1 in
-    let t = two-operands _ _ _ h in
-    (omega arith, omega arith, λ e. third-there _ _ _ h 7 (inl refl) e, λ e. third-there _ _ _ h 10 (inr refl) e)
-
 shared-slice-read-w : tie.Need-shared-slice-read-w Inv-loop2 μ-loop2 Inv-loop μ-loop Inv-search μ-search
-shared-slice-read-w c = omega (arith, stands (c .before .before .before .before .before .before .before .before .before) .0, c .before .before .before .before .before .before .before .before .before .before .before .before .before .before .before .before .before .before .before .before .pre .0 .sized-witnesses)
+shared-slice-read-w c = omega (arith, stands (c .before .before .before .before .before .before .before .before) .0, c .before .before .before .before .before .before .before .before .before .before .before .before .before .before .before .before .before .before .before .pre .0 .sized-witnesses)
 
 idle-requires : tie.Need-idle-requires Inv-loop2 μ-loop2 Inv-loop μ-loop Inv-search μ-search
 idle-requires c κs =
-    let k = c .before .before .before .before .before .before .before .before .before in
+    let k = c .before .before .before .before .before .before .before .before in
     let h = stands k in
-    let st = k .before .search .inv .1 .standing in
-    let s = k .before .before .before .before .before .before .before .before .before .before .before in
-    let r = c .before .before .before .before .before .before .rules .ensures (getD (constraintsOf (read (s .args .problem .now))) (k .before .search .i) noConstraint) (kind-is _ _ _ (h .1)) in
-    (standing-64 _ _ _ _ st, reaching _ _ _ _ _ (h .1) (h .2) (c .before .third .ensures) (s .args .split) (s .args .totals .terms) (branchOf (s .args .parents .now) (s .args .insides .now) (s .args .outsides .now)) (st .falls) (st .few) _ _ (r .0) (r .1))
+    (standing-64 _ _ _ _ (k .before .search .inv .1 .standing), reaching _ _ _ _ (h .1) (h .2))
 
 decode-at-requires : tie.Need-decode-at-requires Inv-loop2 μ-loop2 Inv-loop μ-loop Inv-search μ-search
-decode-at-requires c κs = let h = stands (c .before .before .before .before .before .before .before .before .before .before .before) in (h .1, h .2)
+decode-at-requires c κs = let h = stands (c .before .before .before .before .before .before .before .before .before .before) in (h .1, h .2)
 
 list-at-requires : tie.Need-list-at-requires Inv-loop2 μ-loop2 Inv-loop μ-loop Inv-search μ-search
 list-at-requires c κs =
-    let k = c .before .before .before .before .before .before .before .before .before .before .before .before in
+    let k = c .before .before .before .before .before .before .before .before .before .before .before in
     (stands k .1, k .before .before .before .before .before .before .before .before .before .before .before .pre .1, c .decode-at .ensures)
 
 loop-holds : tie.Need-loop-holds Inv-loop2 μ-loop2 Inv-loop μ-loop Inv-search μ-search
 loop-holds c =
-    let k = c .before .before .before .before .before .before .before .before .before .before .before .before .before in
+    let k = c .before .before .before .before .before .before .before .before .before .before .before .before in
     let v = k .before .search .inv in
     let s = k .before .before .before .before .before .before .before .before .before .before .before in
-    let r = c .before .before .before .before .before .before .before .before .before .before .rules .ensures _ (kind-is _ _ _ (stands k .1)) in
+    let r = c .before .before .before .before .before .before .before .before .before .rules .ensures _ (kind-is _ _ _ (stands k .1)) in
     (v .0, rules-start _ _ _ _ (c .list-at .ensures) _ _ _ (v .1) (omega (arith, k .search-test .taken, constraint-count _ _ (s .pre .0 .opened))) _ _ (r .0) (r .1))
 
 guard-at-requires : tie.Need-guard-at-requires Inv-loop2 μ-loop2 Inv-loop μ-loop Inv-search μ-search
@@ -158,7 +149,7 @@ loop2-again c =
     (v .0, next-position _ _ _ _ _ _ _ _ _ _ (v .1) (c .before .before .loop2-test .taken) (sym (c .before .applies .ensures) ∙ c .if5 .left))
 
 add-j : tie.Need-add-j Inv-loop2 μ-loop2 Inv-loop μ-loop Inv-search μ-search
-add-j c = omega (arith, c .before .before .before .before .before .before .before .before .before .before .before .before .before .before .struct-known .given)
+add-j c = omega (arith, c .before .before .before .before .before .before .before .before .before .before .before .before .before .struct-known .given)
 
 loop-less : tie.Need-loop-less Inv-loop2 μ-loop2 Inv-loop μ-loop Inv-search μ-search
 loop-less c = omega arith
@@ -182,9 +173,9 @@ search-again c =
     let h = stands k in
     let r = c .before .before .rules .ensures _ (kind-is _ _ _ (h .1)) in
     ⊎-elim
-    (λ w. (ap (λ (p : Place). p .rule) (w .11) ∙ w .9 .inv .0, next-constraint _ _ _ _ _ _ _ (w .9 .inv .1) (w .10 .left)))
+    (λ w. (ap (λ (p : Place). p .rule) (w .10) ∙ w .8 .inv .0, next-constraint _ _ _ _ _ _ _ (w .8 .inv .1) (w .9 .left)))
     (⊎-elim
-    (λ w. (ap (λ (p : Place). p .rule) (w .7) ∙ v .0, passed-over _ _ _ _ _ (h .1) (h .2) (w .3 .ensures) _ _ _ (v .1 .standing .falls) (v .1 .standing .few) _ _ (r .0) (r .1) (v .1) (omega (arith, k .search-test .taken, constraint-count _ _ (s .pre .0 .opened))) (sym (w .5 .ensures) ∙ not-false _ (w .6 .left))))
+    (λ w. (ap (λ (p : Place). p .rule) (w .6) ∙ v .0, passed-over _ _ _ _ (h .1) (h .2) _ _ _ (v .1) (omega (arith, k .search-test .taken, constraint-count _ _ (s .pre .0 .opened))) (sym (w .4 .ensures) ∙ not-false _ (w .5 .left))))
     (λ w. (ap (λ (p : Place). p .rule) (w .1) ∙ v .0, no-rules _ _ _ _ _ (v .1) (omega (arith, k .search-test .taken, constraint-count _ _ (s .pre .0 .opened))) _ _ (r .0) (r .1) (w .0 .left))))
     (c .if3 .came)
 
@@ -221,7 +212,6 @@ search-spec =
     shared-slice-read-p
     add-q
     shared-slice-read-q
-    third-requires
     shared-slice-read-w
     idle-requires
     decode-at-requires
