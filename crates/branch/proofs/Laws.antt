@@ -12,7 +12,7 @@ use Rattle.calculus.specs.Invariants.{WellFormed}
 use Rattle.calculus.proofs.Start.{start-fit}
 use Rattle.branch.specs.declared.Branch.{Branch}
 use Rattle.branch.specs.declared.Asserted.{Asserted}
-use Rattle.branch.specs.Held.{held, outcome, Good}
+use Rattle.branch.specs.Held.{held, resultOf, Good}
 
 -- the constants play no part in asserting that a term is in a set, or out of it
 pub assert-any : (k l : List Term) (b : calculus.Branch) (t : Term) (A : SetVar) → assert k b (In t A) ≡ assert l b (In t A)
@@ -32,7 +32,7 @@ unfolding calculus.start
 start-numbers b e = ap (λ (x : calculus.Branch). x .parents) e
 
 -- what an answer comes to, by whether it conflicts
-module _ (o : Option calculus.Branch) (r : Asserted) (e : o ≡ outcome r) where
+module _ (o : Option calculus.Branch) (r : Asserted) (e : o ≡ resultOf r) where
   pub answered : r .conflict ≡ false → o ≡ some (held (r .branch))
   answered q = e ∙ ap (λ (x : Bool). calculus.conflictIf x (held (r .branch))) q
 

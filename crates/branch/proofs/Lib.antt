@@ -1,7 +1,7 @@
 pub mod Masks
 pub mod Counting
 pub mod Roots
-pub mod Outcomes
+pub mod Results
 pub mod Laws
 pub mod Restricting
 pub mod Recording

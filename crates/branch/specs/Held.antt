@@ -49,8 +49,8 @@ merging k b lo hi =
     }
 
 -- what the calculus has where the code answers r
-abbrev pub outcome : Asserted → Option calculus.Branch
-outcome r = calculus.conflictIf (r .conflict) (held (r .branch))
+abbrev pub resultOf : Asserted → Option calculus.Branch
+resultOf r = calculus.conflictIf (r .conflict) (held (r .branch))
 
 -- a well-formed branch over 64 terms, of which the k lowest are the constants
 abbrev pub Good : ℕ → Branch → Type 0

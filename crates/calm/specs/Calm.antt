@@ -1,4 +1,4 @@
--- Constraints that have nothing to do but where one root is concerned; and a branch that differs from another only in one class.
+-- Constraints of which no rule applies but where one root is concerned; and a branch that differs from another only in one class.
 use mathlib.Core.Path.{_≡_}
 use mathlib.Core.Bool.{Bool, true}
 use mathlib.Core.List.{List}

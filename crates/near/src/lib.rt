@@ -1,16 +1,18 @@
-// The first constraint that has something to do where one root is concerned.
+// The first constraint of which a rule applies where one root is concerned.
 use branch::find;
 use branch::has;
 use constraints::decode_at;
 use constraints::list_at;
 use guards::has_root;
 use problem::Totals;
+use terms::SetVar;
+use terms::Term;
 ghost use mathlib.Core.Path.{_≡_};
 ghost use mathlib.Core.Bool.{false, cond};
 ghost use Prim.Native.Nat.{ℕ, _≤_, _<_};
 ghost use lib.ListN.{length};
 ghost use lib.Dec.{eqb};
-ghost use Rattle.calculus.specs.Lists.{upFrom};
+ghost use Rattle.calculus.specs.Lists.{upFrom, bit};
 ghost use Rattle.calculus.specs.Terms.{term};
 ghost use Rattle.calculus.specs.Relations.{equal, union, disjoint, intersection};
 ghost use Rattle.calculus.specs.Branch.{Branch};
@@ -42,7 +44,7 @@ fn lacking(a: bool, x: bool, j: u8) -> u8
     0
 }
 
-// For each relation its first propagation rule that applies at a root, or 0: the root's class is known in A, B and C as a, b and c say, and out of A and B as x and y say.
+// For each relation but subset its first propagation rule that applies at a root, or 0: the root's class is known in A, B and C as a, b and c say, and out of A and B as x and y say.
 fn equal_rule(a: bool, b: bool) -> u8
     ensures { λ r. ⌜ r ≡ rowRule equal (by a b a) (by false false false) ⌝ }
 {
@@ -113,14 +115,23 @@ fn intersection_rule(a: bool, b: bool, c: bool) -> u8
 }
 
 // Whether term t is in the class of root h.
-fn in_class(parents: &[u8], t: u8, h: usize) -> bool
-    requires { ⌜ (t < length (now parents)) × Falls (now parents) ⌝ }
-    ensures { λ r. ⌜ r ≡ eqb (rootOf (now (parents .entry)) t) h ⌝ }
+fn in_class(parents: &[u8], t: Term, h: usize) -> bool
+    requires { ⌜ (t .0 < length (now parents)) × Falls (now parents) ⌝ }
+    ensures { λ r. ⌜ r ≡ eqb (rootOf (now (parents .entry)) (t .0)) h ⌝ }
 {
-    find(parents, t as usize) == h
+    let i = t.0 as usize;
+    find(parents, i) == h
 }
 
-// Rule 19 of constraint i, a list or an interval of set p, if the class of root h has an entry and is not known in p; otherwise 0. The class is known in the sets of ins.
+// Whether set a is in the mask.
+fn in_mask(mask: u8, a: SetVar) -> bool
+    requires { ⌜ a .0 < 8 ⌝ }
+    ensures { λ r. ⌜ r ≡ bit mask (a .0) ⌝ }
+{
+    has(mask, a.0)
+}
+
+// Rule 19 of constraint i, a list or an interval of set a, if the class of root h has an entry and is not known in a; otherwise 0. The class is known in the sets of ins.
 fn list_near<'a>(
     problem: &'a [u8],
     numbers: &'a [u8],
@@ -129,13 +140,13 @@ fn list_near<'a>(
     w: u8,
     parents: &'a [u8],
     ins: u8,
-    p: u8,
+    a: SetVar,
     h: usize,
 ) -> u8
-    requires { ⌜ Stands (now problem) i at × (term w ≡ witnessOf (now problem) i) × (now numbers ≡ upFrom 0 64) × (length (now parents) ≡ 64) × Falls (now parents) × (p < 8) ⌝ }
-    ensures { λ r. ⌜ r ≡ listRule (now (parents .entry)) ins p h (entriesOf (constraintOf (now (problem .entry)) i)) ⌝ }
+    requires { ⌜ Stands (now problem) i at × (term w ≡ witnessOf (now problem) i) × (now numbers ≡ upFrom 0 64) × (length (now parents) ≡ 64) × Falls (now parents) × (a .0 < 8) ⌝ }
+    ensures { λ r. ⌜ r ≡ listRule (now (parents .entry)) ins (a .0) h (entriesOf (constraintOf (now (problem .entry)) i)) ⌝ }
 {
-    if has(ins, p) {
+    if in_mask(ins, a) {
         return 0;
     }
     let l = decode_at(problem, i, at, w);
@@ -165,26 +176,26 @@ fn rule_near<'a>(
     let q = problem[at + 2];
     match problem[at] {
         1 => {
-            if has(ins, q) {
+            if in_mask(ins, SetVar(q)) {
                 return 0;
             }
-            if in_class(parents, p, h) {
+            if in_class(parents, Term(p), h) {
                 return 1;
             }
             0
         }
         2 => {
-            if has(outs, q) {
+            if in_mask(outs, SetVar(q)) {
                 return 0;
             }
-            if in_class(parents, p, h) {
+            if in_class(parents, Term(p), h) {
                 return 2;
             }
             0
         }
         3 => {
-            if in_class(parents, p, h) {
-                if in_class(parents, q, h) {
+            if in_class(parents, Term(p), h) {
+                if in_class(parents, Term(q), h) {
                     return 0;
                 }
                 return 3;
@@ -192,38 +203,47 @@ fn rule_near<'a>(
             0
         }
         4 => {
-            if in_class(parents, p, h) {
-                if in_class(parents, q, h) {
+            if in_class(parents, Term(p), h) {
+                if in_class(parents, Term(q), h) {
                     return 4;
                 }
                 return 0;
             }
             0
         }
-        5 => equal_rule(has(ins, p), has(ins, q)),
+        5 => equal_rule(in_mask(ins, SetVar(p)), in_mask(ins, SetVar(q))),
         6 => 0,
         7 => {
             let s = problem[at + 3];
             union_rule(
-                has(ins, p),
-                has(ins, q),
-                has(ins, s),
-                has(outs, p),
-                has(outs, q),
+                in_mask(ins, SetVar(p)),
+                in_mask(ins, SetVar(q)),
+                in_mask(ins, SetVar(s)),
+                in_mask(outs, SetVar(p)),
+                in_mask(outs, SetVar(q)),
             )
         }
-        8 => disjoint_rule(has(ins, p), has(ins, q), has(outs, p), has(outs, q)),
-        9 => lacking(has(ins, p), has(ins, q), 15),
+        8 => disjoint_rule(
+            in_mask(ins, SetVar(p)),
+            in_mask(ins, SetVar(q)),
+            in_mask(outs, SetVar(p)),
+            in_mask(outs, SetVar(q)),
+        ),
+        9 => lacking(in_mask(ins, SetVar(p)), in_mask(ins, SetVar(q)), 15),
         10 => {
             let s = problem[at + 3];
-            intersection_rule(has(ins, p), has(ins, q), has(ins, s))
+            intersection_rule(
+                in_mask(ins, SetVar(p)),
+                in_mask(ins, SetVar(q)),
+                in_mask(ins, SetVar(s)),
+            )
         }
         // kinds 11 and 12
-        _ => list_near(problem, numbers, i, at, w, parents, ins, p, h),
+        _ => list_near(problem, numbers, i, at, w, parents, ins, SetVar(p), h),
     }
 }
 
-// Looks for it among the constraints before number from. The numbers are 0 to 63.
+// The first constraint before number from of which a propagation rule applies where the root is concerned, and that rule. The numbers are 0 to 63.
 pub fn first_near<'a>(
     problem: &'a [u8],
     numbers: &'a [u8],

@@ -25,7 +25,7 @@ pub struct Place {
     pub position: u8,
 }
 
-// The first place where a propagation rule applies, or a split. Of the constraints before number from, none has anything to do but where the root is concerned. The numbers are 0 to 63.
+// The first place where a propagation rule applies, or a split. Of the constraints before number from, no propagation rule applies but where the root is concerned. The numbers are 0 to 63.
 pub fn search<'a>(
     problem: &'a [u8],
     numbers: &'a [u8],
@@ -44,7 +44,7 @@ pub fn search<'a>(
 {
     let terms = totals.terms;
     let count = totals.constraints;
-    let close = first_near(
+    let nearest = first_near(
         problem,
         numbers,
         totals,
@@ -56,17 +56,17 @@ pub fn search<'a>(
         from,
         root,
     );
-    let found = close.rule;
+    let found = nearest.rule;
     if found != 0 {
         if found != 19 {
             return Place {
-                constraint: close.constraint,
+                constraint: nearest.constraint,
                 rule: found,
                 position: root,
             };
         }
     }
-    let start = close.constraint;
+    let start = nearest.constraint;
     let mut place = Place {
         constraint: 0,
         rule: 0,

@@ -23,7 +23,7 @@ use Rattle.problem.specs.Table.{Opened}
 use Rattle.problem.proofs.Access.{constraint-count}
 use Rattle.branch.specs.declared.Branch.{Branch}
 use Rattle.branch.specs.declared.Asserted.{Asserted}
-use Rattle.branch.specs.Held.{held, rootOf, noting, merging, outcome, Good}
+use Rattle.branch.specs.Held.{held, rootOf, noting, merging, resultOf, Good}
 use Rattle.branch.proofs.Laws.{answered}
 use Rattle.constraints.specs.Decoded.{decoded, Unpacked}
 use Rattle.constraints.specs.declared.Constraint as code
@@ -168,8 +168,8 @@ module _ (bs : List ℕ) (tab : Table) (o : Opened bs tab) (b : Branch) (good : 
 module _ (bs : List ℕ) (tab : Table) (o : Opened bs tab) (b : Branch) (good : Good (tab .constants) b) (split : Bool) (p : Place) (f : Finds split (tab .terms) (constraints bs tab) (held b) p) (n : ¬ (p .rule ≡ 0))
     (es : List ℕ) (l : code.Constraint) (u : Unpacked bs (p .constraint) es l) (c : ℕ) (lt : c < slotsOf (decoded (map term es) l) (p .rule))
     (a : Act) (acts : Acts (b .parents) (decoded (map term es) l) (p .rule) (p .position) c a) (r : Asserted) (er : r ≡ performed (tab .constants) b a) where
-  pub answers : childOf (constants bs tab) (held b) (decoded (map term es) l) (p .rule) (p .position) c ≡ outcome r
-  answers = acts .asserts (tab .constants) b refl good ∙ ap outcome (sym er)
+  pub answers : childOf (constants bs tab) (held b) (decoded (map term es) l) (p .rule) (p .position) c ≡ resultOf r
+  answers = acts .asserts (tab .constants) b refl good ∙ ap resultOf (sym er)
 
   module _ (q : r .conflict ≡ false) (y : ℕ) (ey : y ≡ target a) where
     pub child-begins : Settled bs tab b → Begins bs tab (r .branch) (tab .constraints) y

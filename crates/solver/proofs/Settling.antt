@@ -13,7 +13,7 @@ use Rattle.problem.specs.declared.Table.{Table}
 use Rattle.problem.specs.Table.{Opened}
 use Rattle.branch.specs.declared.Branch.{Branch}
 use Rattle.branch.specs.declared.Asserted.{Asserted}
-use Rattle.branch.specs.Held.{held, outcome, Good}
+use Rattle.branch.specs.Held.{held, resultOf, Good}
 use Rattle.branch.proofs.Laws.{answered, refusing}
 use Rattle.constraints.specs.Decoded.{decoded, Unpacked}
 use Rattle.constraints.specs.declared.Constraint as code
@@ -68,7 +68,7 @@ module _ (bs : List ℕ) (tab : Table) (o : Opened bs tab) (budget : ℕ) (b : B
       }
 
   module _ (n : ¬ (p .rule ≡ 0)) (es : List ℕ) (l : code.Constraint) (u : Unpacked bs (p .constraint) es l) (h : ℕ) (eh : h ≡ moveAt (held b) (decoded (map term es) l) (p .rule) (p .position) .0 .index)
-      (r : Asserted) (er : childOf (constants bs tab) (held b) (decoded (map term es) l) (p .rule) (p .position) 0 ≡ outcome r) (more : c .steps < budget) where
+      (r : Asserted) (er : childOf (constants bs tab) (held b) (decoded (map term es) l) (p .rule) (p .position) 0 ≡ resultOf r) (more : c .steps < budget) where
     refused : r .conflict ≡ true → childOf (constants bs tab) (held b) (decoded (map term es) l) (p .rule) (p .position) 0 ≡ none
     refused q = refusing (childOf (constants bs tab) (held b) (decoded (map term es) l) (p .rule) (p .position) 0) r er q
 

@@ -19,7 +19,7 @@ use Rattle.problem.specs.declared.Table.{Table}
 use Rattle.problem.specs.Table.{Opened}
 use Rattle.branch.specs.declared.Branch.{Branch}
 use Rattle.branch.specs.declared.Asserted.{Asserted}
-use Rattle.branch.specs.Held.{held, restrict, outcome, Good}
+use Rattle.branch.specs.Held.{held, restrict, resultOf, Good}
 use Rattle.branch.proofs.Laws.{answered, refusing}
 use Rattle.constraints.specs.Decoded.{decoded, Unpacked}
 use Rattle.constraints.specs.declared.Constraint as code
@@ -161,7 +161,7 @@ module _ (bs : List ℕ) (tab : Table) (o : Opened bs tab) (budget : ℕ) (b : B
     pub worked-done : slotsOf this (p .rule) ≤ k → SplitOutcome bs tab budget b p (state c F T) (state d G U)
     worked-done h = v .leads (state d G U) (children-done bs tab budget b this (p .rule) (p .position) k (state d G U) h)
 
-    module _ (lt : k < slotsOf this (p .rule)) (r : Asserted) (er : childOf (constants bs tab) (held b) this (p .rule) (p .position) k ≡ outcome r) where
+    module _ (lt : k < slotsOf this (p .rule)) (r : Asserted) (er : childOf (constants bs tab) (held b) this (p .rule) (p .position) k ≡ resultOf r) where
       pub worked-skip : r .conflict ≡ true → Worked bs tab budget b p es l c F T (k + 1) d G U
       worked-skip q = rw (add-one k) record {
         leads = λ t x. v .leads t (children-skip bs tab budget b this (p .rule) (p .position) k (state d G U) lt

@@ -99,7 +99,7 @@ pub record Going (budget : ℕ) (c : Counts) (trace : List ℕ) : Type 0 where
   pub few : budget ≤ 10000
   pub traced : 4 * budget ≤ length trace
 
--- a search may begin so: of the constraints before number from, none has anything to do but where the root is concerned
+-- a search may begin so: of the constraints before number from, no propagation rule applies but where the root is concerned
 pub record Begins (bs : List ℕ) (tab : Table) (b : Branch) (from root : ℕ) : Type 0 where
   pub in-problem : from ≤ tab .constraints
   pub low : root < 64

@@ -42,7 +42,7 @@ pub struct Inferred {
     pub found: u8,
 }
 
-// The first propagation step of a branch. Of the constraints before number from, none has anything to do but where the root is concerned.
+// The first propagation step of a branch. Of the constraints before number from, no rule of propagation applies but where the root is concerned.
 fn infer<'a>(
     problem: &'a [u8],
     numbers: &'a [u8],

@@ -11,9 +11,9 @@ use Rattle.calculus.specs.Branch.{rootAt, In, Out, Same, assert, assertAll}
 use Rattle.calculus.specs.Invariants.{Falls}
 use Rattle.calculus.proofs.Walk.{walk-root, root-walk}
 use Rattle.branch.specs.declared.Branch.{Branch}
-use Rattle.branch.specs.Held.{held, rootOf, noting, outcome, Good}
+use Rattle.branch.specs.Held.{held, rootOf, noting, resultOf, Good}
 use Rattle.branch.proofs.Roots.{root-is, root-le}
-use Rattle.branch.proofs.Outcomes.{noted-in, noted-out, noted-in-out, noted-out-in, merged-already, merged-up, merged-down}
+use Rattle.branch.proofs.Results.{noted-in, noted-out, noted-in-out, noted-out-in, merged-already, merged-up, merged-down}
 use Rattle.terms.specs.declared.Term.{Term as CodedTerm}
 use Rattle.step.specs.declared.Act.{Act}
 use Rattle.step.specs.declared.Act.the-variants.{Note, Merge, Close}
@@ -64,7 +64,7 @@ module _ (ps : List ℕ) (fall : Falls ps) where
   -- ---- noting of t, whose root is h
 
   module _ (t : ℕ) (l : t < 64) (h : CodedTerm) (e : h .0 ≡ rootOf ps t) (f : ℕ → calculus.Branch → Option calculus.Branch) (u : calculus.Branch → ℕ) (z : (b : calculus.Branch) → b .parents ≡ ps → rootOf ps (u b) ≡ rootOf ps t) where
-    note-does : (m n : ℕ) → ((k : ℕ) (b : Branch) → Good k b → h .0 ≡ rootAt (held b) t → f k (held b) ≡ outcome (noting b (h .0) m n)) → Does ps f u (Note h m n)
+    note-does : (m n : ℕ) → ((k : ℕ) (b : Branch) → Good k b → h .0 ≡ rootAt (held b) t → f k (held b) ≡ resultOf (noting b (h .0) m n)) → Does ps f u (Note h m n)
     note-does m n x = record {
       rooted = (omega (arith, root-le ps fall t), ap (rootOf ps) e ∙ root-own t ∙ sym e);
       asserts = λ k b q good. x k b good (e ∙ sym (root-in (held b) t q));
@@ -72,10 +72,10 @@ module _ (ps : List ℕ) (fall : Falls ps) where
     }
 
     pub in-does : (a m : ℕ) → m ≡ 2 ^ a → ((k : ℕ) (b : calculus.Branch) → f k b ≡ assert [] b (In (term t) (setVar a))) → Does ps f u (Note h m 0)
-    in-does a m p x = note-does m 0 (λ k b good r. x k (held b) ∙ noted-in k b good [] t (h .0) r a ∙ ap (λ (w : ℕ). outcome (noting b (h .0) w 0)) (sym p))
+    in-does a m p x = note-does m 0 (λ k b good r. x k (held b) ∙ noted-in k b good [] t (h .0) r a ∙ ap (λ (w : ℕ). resultOf (noting b (h .0) w 0)) (sym p))
 
     pub out-does : (a m : ℕ) → m ≡ 2 ^ a → ((k : ℕ) (b : calculus.Branch) → f k b ≡ assert [] b (Out (term t) (setVar a))) → Does ps f u (Note h 0 m)
-    out-does a m p x = note-does 0 m (λ k b good r. x k (held b) ∙ noted-out k b good [] t (h .0) r a ∙ ap (λ (w : ℕ). outcome (noting b (h .0) 0 w)) (sym p))
+    out-does a m p x = note-does 0 m (λ k b good r. x k (held b) ∙ noted-out k b good [] t (h .0) r a ∙ ap (λ (w : ℕ). resultOf (noting b (h .0) 0 w)) (sym p))
 
     module _ (a c m n : ℕ) (p : m ≡ 2 ^ a) (q : n ≡ 2 ^ c) where
       pub in-out-does : ((k : ℕ) (b : calculus.Branch) → f k b ≡ assertAll [] b (In (term t) (setVar a) ∷ Out (term t) (setVar c) ∷ [])) → Does ps f u (Note h m n)

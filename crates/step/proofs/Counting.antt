@@ -14,7 +14,7 @@ use Rattle.calculus.specs.Meaning as meaning
 use Rattle.calculus.specs.Branch as calculus
 use Rattle.calculus.specs.Search.{children}
 use Rattle.branch.specs.declared.Asserted.{Asserted}
-use Rattle.branch.specs.Held.{outcome}
+use Rattle.branch.specs.Held.{resultOf}
 use Rattle.branch.proofs.Laws.{answered, refusing}
 use Rattle.constraints.specs.declared.Constraint.{Constraint}
 use Rattle.constraints.specs.Decoded.{decoded, Handled}
@@ -53,7 +53,7 @@ module _ (f : ℕ → Option calculus.Branch) where
       go (some d) e ih = let z : f (suc s + n) ≡ f (s + suc n) = ap f (omega arith) in rw (e, picked) (rw (← z) (omega arith))
 
 -- kept counts the children below c, and r is what child c comes to
-module _ (constants : List Term) (b : calculus.Branch) (l : meaning.Constraint) (j p c kept : ℕ) (r : Asserted) (e : childOf constants b l j p c ≡ outcome r) (k : kept ≡ length (picked (childOf constants b l j p) (upFrom 0 c))) where
+module _ (constants : List Term) (b : calculus.Branch) (l : meaning.Constraint) (j p c kept : ℕ) (r : Asserted) (e : childOf constants b l j p c ≡ resultOf r) (k : kept ≡ length (picked (childOf constants b l j p) (upFrom 0 c))) where
   abbrev f : ℕ → Option calculus.Branch
   f = childOf constants b l j p
 

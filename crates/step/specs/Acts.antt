@@ -10,7 +10,7 @@ use Rattle.calculus.specs.Meaning as meaning
 use Rattle.calculus.specs.Branch as calculus
 use Rattle.branch.specs.declared.Branch.{Branch}
 use Rattle.branch.specs.declared.Asserted.{Asserted}
-use Rattle.branch.specs.Held.{held, rootOf, noting, merging, outcome, Good}
+use Rattle.branch.specs.Held.{held, rootOf, noting, merging, resultOf, Good}
 use Rattle.places.specs.Places.{moveAt}
 use Rattle.places.specs.Alternatives.{childOf}
 use Rattle.step.specs.declared.Act.{Act}
@@ -53,7 +53,7 @@ Touches ps Close t = Unit {0}
 -- of each branch with these parents act a asserts what f does, and it changes the class of t
 pub record Does (ps : List ℕ) (f : ℕ → calculus.Branch → Option calculus.Branch) (t : calculus.Branch → ℕ) (a : Act) : Type 0 where
   pub rooted : Rooted ps a
-  pub asserts : (k : ℕ) (b : Branch) → b .parents ≡ ps → Good k b → f k (held b) ≡ outcome (performed k b a)
+  pub asserts : (k : ℕ) (b : Branch) → b .parents ≡ ps → Good k b → f k (held b) ≡ resultOf (performed k b a)
   pub concerns : (b : calculus.Branch) → b .parents ≡ ps → Touches ps a (t b)
 
 -- act a is child c of rule j at position p of constraint l

@@ -23,35 +23,35 @@ shared-slice-read-q c = let s = c .before .before .before .before .before in ome
 shared-slice-read-match : tie.Need-shared-slice-read-match
 shared-slice-read-match c = let s = c .before .before .before .before .before .before in omega (arith, two-operands _ _ _ (s .pre .0))
 
-has-requires : tie.Need-has-requires
-has-requires c κs = let s = c .before .before .before .before .before .before .before in ranged (s .pre .0) (s .pre .1) 1 (c .match .keys1) .1
+in-mask-requires : tie.Need-in-mask-requires
+in-mask-requires c κs = let s = c .before .before .before .before .before .before .before in ranged (s .pre .0) (s .pre .1) 1 (c .match .keys1) .1
 
 returns : tie.Need-returns
-returns c n b m = let s = c .before .before .before .before .before .before .before .before .before in rw (c .if1 .taken) at (member-near (s .pre .0) (s .pre .1) m _ _ refl (c .before .before .match .keys1) (c .before .has .ensures))
+returns c n b m = let s = c .before .before .before .before .before .before .before .before .before in rw (c .if1 .taken) at (member-near (s .pre .0) (s .pre .1) m _ _ refl (c .before .before .match .keys1) (c .before .in-mask .ensures))
 
 in-class-requires : tie.Need-in-class-requires
 in-class-requires c κs = let s = c .before .before .before .before .before .before .before .before .before in (omega (arith, s .pre .3, ranged (s .pre .0) (s .pre .1) 1 (c .before .before .match .keys1) .0), s .pre .4)
 
 returns-2 : tie.Need-returns-2
-returns-2 c n b m = let s = c .before .before .before .before .before .before .before .before .before .before .before in rw (c .before .before .if1 .left, c .if2 .taken) at (member-near (s .pre .0) (s .pre .1) m _ _ (c .before .in-class .ensures) (c .before .before .before .before .match .keys1) (c .before .before .before .has .ensures))
+returns-2 c n b m = let s = c .before .before .before .before .before .before .before .before .before .before .before in rw (c .before .before .if1 .left, c .if2 .taken) at (member-near (s .pre .0) (s .pre .1) m _ _ (c .before .in-class .ensures) (c .before .before .before .before .match .keys1) (c .before .before .before .in-mask .ensures))
 
 returns-9 : tie.Need-returns-9
-returns-9 c n b m = let s = c .before .before .before .before .before .before .before .before .before .before .before in rw (c .before .before .if1 .left, c .if2 .left) at (member-near (s .pre .0) (s .pre .1) m _ _ (c .before .in-class .ensures) (c .before .before .before .before .match .keys1) (c .before .before .before .has .ensures))
+returns-9 c n b m = let s = c .before .before .before .before .before .before .before .before .before .before .before in rw (c .before .before .if1 .left, c .if2 .left) at (member-near (s .pre .0) (s .pre .1) m _ _ (c .before .in-class .ensures) (c .before .before .before .before .match .keys1) (c .before .before .before .in-mask .ensures))
 
-has-requires-2 : tie.Need-has-requires-2
-has-requires-2 c κs = let s = c .before .before .before .before .before .before .before in ranged (s .pre .0) (s .pre .1) 2 (c .match .keys2) .1
+in-mask-requires-2 : tie.Need-in-mask-requires-2
+in-mask-requires-2 c κs = let s = c .before .before .before .before .before .before .before in ranged (s .pre .0) (s .pre .1) 2 (c .match .keys2) .1
 
 returns-3 : tie.Need-returns-3
-returns-3 c n b m = let s = c .before .before .before .before .before .before .before .before .before in rw (c .if3 .taken) at (nonmember-near (s .pre .0) (s .pre .1) m _ _ refl (c .before .before .match .keys2) (c .before .has2 .ensures))
+returns-3 c n b m = let s = c .before .before .before .before .before .before .before .before .before in rw (c .if3 .taken) at (nonmember-near (s .pre .0) (s .pre .1) m _ _ refl (c .before .before .match .keys2) (c .before .in-mask2 .ensures))
 
 in-class-requires-2 : tie.Need-in-class-requires-2
 in-class-requires-2 c κs = let s = c .before .before .before .before .before .before .before .before .before in (omega (arith, s .pre .3, ranged (s .pre .0) (s .pre .1) 2 (c .before .before .match .keys2) .0), s .pre .4)
 
 returns-4 : tie.Need-returns-4
-returns-4 c n b m = let s = c .before .before .before .before .before .before .before .before .before .before .before in rw (c .before .before .if3 .left, c .if4 .taken) at (nonmember-near (s .pre .0) (s .pre .1) m _ _ (c .before .in-class2 .ensures) (c .before .before .before .before .match .keys2) (c .before .before .before .has2 .ensures))
+returns-4 c n b m = let s = c .before .before .before .before .before .before .before .before .before .before .before in rw (c .before .before .if3 .left, c .if4 .taken) at (nonmember-near (s .pre .0) (s .pre .1) m _ _ (c .before .in-class2 .ensures) (c .before .before .before .before .match .keys2) (c .before .before .before .in-mask2 .ensures))
 
 returns-10 : tie.Need-returns-10
-returns-10 c n b m = let s = c .before .before .before .before .before .before .before .before .before .before .before in rw (c .before .before .if3 .left, c .if4 .left) at (nonmember-near (s .pre .0) (s .pre .1) m _ _ (c .before .in-class2 .ensures) (c .before .before .before .before .match .keys2) (c .before .before .before .has2 .ensures))
+returns-10 c n b m = let s = c .before .before .before .before .before .before .before .before .before .before .before in rw (c .before .before .if3 .left, c .if4 .left) at (nonmember-near (s .pre .0) (s .pre .1) m _ _ (c .before .in-class2 .ensures) (c .before .before .before .before .match .keys2) (c .before .before .before .in-mask2 .ensures))
 
 in-class-requires-3 : tie.Need-in-class-requires-3
 in-class-requires-3 c κs = let s = c .before .before .before .before .before .before .before in (omega (arith, s .pre .3, ranged (s .pre .0) (s .pre .1) 3 (c .match .keys3) .0), s .pre .4)
@@ -83,17 +83,17 @@ returns-8 c n b m = let s = c .before .before .before .before .before .before .b
 returns-12 : tie.Need-returns-12
 returns-12 c n b m = let s = c .before .before .before .before .before .before .before .before .before in rw (c .if7 .left) at (different-near (s .pre .0) (s .pre .1) m _ _ (c .before .in-class5 .ensures) (c .before .before .match .keys4) refl)
 
-has-requires-3 : tie.Need-has-requires-3
-has-requires-3 c κs = let s = c .before .before .before .before .before .before .before in ranged (s .pre .0) (s .pre .1) 5 (c .match .keys5) .0
+in-mask-requires-3 : tie.Need-in-mask-requires-3
+in-mask-requires-3 c κs = let s = c .before .before .before .before .before .before .before in ranged (s .pre .0) (s .pre .1) 5 (c .match .keys5) .0
 
-has-requires-4 : tie.Need-has-requires-4
-has-requires-4 c κs = let s = c .before .before .before .before .before .before .before .before in ranged (s .pre .0) (s .pre .1) 5 (c .before .match .keys5) .1
+in-mask-requires-4 : tie.Need-in-mask-requires-4
+in-mask-requires-4 c κs = let s = c .before .before .before .before .before .before .before .before in ranged (s .pre .0) (s .pre .1) 5 (c .before .match .keys5) .1
 
 equal-rule-requires : tie.Need-equal-rule-requires
 equal-rule-requires c κs = search needs
 
 returns-13 : tie.Need-returns-13
-returns-13 c n b m = let s = c .before .before .before .before .before .before .before .before .before .before in c .equal-rule .ensures ∙ equal-near (s .pre .0) (s .pre .1) m _ _ (c .before .before .has3 .ensures) (c .before .has4 .ensures) (c .before .before .before .match .keys5)
+returns-13 c n b m = let s = c .before .before .before .before .before .before .before .before .before .before in c .equal-rule .ensures ∙ equal-near (s .pre .0) (s .pre .1) m _ _ (c .before .before .in-mask3 .ensures) (c .before .in-mask4 .ensures) (c .before .before .before .match .keys5)
 
 returns-14 : tie.Need-returns-14
 returns-14 c n b m = let s = c .before .before .before .before .before .before .before in negation-near (s .pre .0) (s .pre .1) m (c .match .keys6)
@@ -104,56 +104,56 @@ add-s c = let s = c .before .before .before .before .before .before .before in o
 shared-slice-read-s : tie.Need-shared-slice-read-s
 shared-slice-read-s c = let s = c .before .before .before .before .before .before .before .before in third-there _ _ _ (s .pre .0) 7 (inl refl) (c .before .match .keys7)
 
-has-requires-5 : tie.Need-has-requires-5
-has-requires-5 c κs = let s = c .before .before .before .before .before .before .before .before in ranged (s .pre .0) (s .pre .1) 7 (c .before .match .keys7) .0
+in-mask-requires-5 : tie.Need-in-mask-requires-5
+in-mask-requires-5 c κs = let s = c .before .before .before .before .before .before .before .before in ranged (s .pre .0) (s .pre .1) 7 (c .before .match .keys7) .0
 
-has-requires-6 : tie.Need-has-requires-6
-has-requires-6 c κs = let s = c .before .before .before .before .before .before .before .before .before in ranged (s .pre .0) (s .pre .1) 7 (c .before .before .match .keys7) .1
+in-mask-requires-6 : tie.Need-in-mask-requires-6
+in-mask-requires-6 c κs = let s = c .before .before .before .before .before .before .before .before .before in ranged (s .pre .0) (s .pre .1) 7 (c .before .before .match .keys7) .1
 
-has-requires-7 : tie.Need-has-requires-7
-has-requires-7 c κs = let s = c .before .before .before .before .before .before .before .before .before .before in ranged (s .pre .0) (s .pre .1) 7 (c .before .before .before .match .keys7) .2
+in-mask-requires-7 : tie.Need-in-mask-requires-7
+in-mask-requires-7 c κs = let s = c .before .before .before .before .before .before .before .before .before .before in ranged (s .pre .0) (s .pre .1) 7 (c .before .before .before .match .keys7) .2
 
-has-requires-8 : tie.Need-has-requires-8
-has-requires-8 c κs = let s = c .before .before .before .before .before .before .before .before .before .before .before in ranged (s .pre .0) (s .pre .1) 7 (c .before .before .before .before .match .keys7) .0
+in-mask-requires-8 : tie.Need-in-mask-requires-8
+in-mask-requires-8 c κs = let s = c .before .before .before .before .before .before .before .before .before .before .before in ranged (s .pre .0) (s .pre .1) 7 (c .before .before .before .before .match .keys7) .0
 
-has-requires-9 : tie.Need-has-requires-9
-has-requires-9 c κs = let s = c .before .before .before .before .before .before .before .before .before .before .before .before in ranged (s .pre .0) (s .pre .1) 7 (c .before .before .before .before .before .match .keys7) .1
+in-mask-requires-9 : tie.Need-in-mask-requires-9
+in-mask-requires-9 c κs = let s = c .before .before .before .before .before .before .before .before .before .before .before .before in ranged (s .pre .0) (s .pre .1) 7 (c .before .before .before .before .before .match .keys7) .1
 
 union-rule-requires : tie.Need-union-rule-requires
 union-rule-requires c κs = search needs
 
 returns-15 : tie.Need-returns-15
-returns-15 c n b m = let s = c .before .before .before .before .before .before .before .before .before .before .before .before .before .before in c .union-rule .ensures ∙ union-near (s .pre .0) (s .pre .1) m _ _ (c .before .before .before .before .before .has5 .ensures) (c .before .before .before .before .has6 .ensures) _ _ (c .before .before .has8 .ensures) (c .before .has9 .ensures) (c .before .before .before .before .before .before .before .match .keys7) _ (c .before .before .before .has7 .ensures)
+returns-15 c n b m = let s = c .before .before .before .before .before .before .before .before .before .before .before .before .before .before in c .union-rule .ensures ∙ union-near (s .pre .0) (s .pre .1) m _ _ (c .before .before .before .before .before .in-mask5 .ensures) (c .before .before .before .before .in-mask6 .ensures) _ _ (c .before .before .in-mask8 .ensures) (c .before .in-mask9 .ensures) (c .before .before .before .before .before .before .before .match .keys7) _ (c .before .before .before .in-mask7 .ensures)
 
-has-requires-10 : tie.Need-has-requires-10
-has-requires-10 c κs = let s = c .before .before .before .before .before .before .before in ranged (s .pre .0) (s .pre .1) 8 (c .match .keys8) .0
+in-mask-requires-10 : tie.Need-in-mask-requires-10
+in-mask-requires-10 c κs = let s = c .before .before .before .before .before .before .before in ranged (s .pre .0) (s .pre .1) 8 (c .match .keys8) .0
 
-has-requires-11 : tie.Need-has-requires-11
-has-requires-11 c κs = let s = c .before .before .before .before .before .before .before .before in ranged (s .pre .0) (s .pre .1) 8 (c .before .match .keys8) .1
+in-mask-requires-11 : tie.Need-in-mask-requires-11
+in-mask-requires-11 c κs = let s = c .before .before .before .before .before .before .before .before in ranged (s .pre .0) (s .pre .1) 8 (c .before .match .keys8) .1
 
-has-requires-12 : tie.Need-has-requires-12
-has-requires-12 c κs = let s = c .before .before .before .before .before .before .before .before .before in ranged (s .pre .0) (s .pre .1) 8 (c .before .before .match .keys8) .0
+in-mask-requires-12 : tie.Need-in-mask-requires-12
+in-mask-requires-12 c κs = let s = c .before .before .before .before .before .before .before .before .before in ranged (s .pre .0) (s .pre .1) 8 (c .before .before .match .keys8) .0
 
-has-requires-13 : tie.Need-has-requires-13
-has-requires-13 c κs = let s = c .before .before .before .before .before .before .before .before .before .before in ranged (s .pre .0) (s .pre .1) 8 (c .before .before .before .match .keys8) .1
+in-mask-requires-13 : tie.Need-in-mask-requires-13
+in-mask-requires-13 c κs = let s = c .before .before .before .before .before .before .before .before .before .before in ranged (s .pre .0) (s .pre .1) 8 (c .before .before .before .match .keys8) .1
 
 disjoint-rule-requires : tie.Need-disjoint-rule-requires
 disjoint-rule-requires c κs = search needs
 
 returns-16 : tie.Need-returns-16
-returns-16 c n b m = let s = c .before .before .before .before .before .before .before .before .before .before .before .before in c .disjoint-rule .ensures ∙ disjoint-near (s .pre .0) (s .pre .1) m _ _ (c .before .before .before .before .has10 .ensures) (c .before .before .before .has11 .ensures) _ _ (c .before .before .has12 .ensures) (c .before .has13 .ensures) (c .before .before .before .before .before .match .keys8)
+returns-16 c n b m = let s = c .before .before .before .before .before .before .before .before .before .before .before .before in c .disjoint-rule .ensures ∙ disjoint-near (s .pre .0) (s .pre .1) m _ _ (c .before .before .before .before .in-mask10 .ensures) (c .before .before .before .in-mask11 .ensures) _ _ (c .before .before .in-mask12 .ensures) (c .before .in-mask13 .ensures) (c .before .before .before .before .before .match .keys8)
 
-has-requires-14 : tie.Need-has-requires-14
-has-requires-14 c κs = let s = c .before .before .before .before .before .before .before in ranged (s .pre .0) (s .pre .1) 9 (c .match .keys9) .0
+in-mask-requires-14 : tie.Need-in-mask-requires-14
+in-mask-requires-14 c κs = let s = c .before .before .before .before .before .before .before in ranged (s .pre .0) (s .pre .1) 9 (c .match .keys9) .0
 
-has-requires-15 : tie.Need-has-requires-15
-has-requires-15 c κs = let s = c .before .before .before .before .before .before .before .before in ranged (s .pre .0) (s .pre .1) 9 (c .before .match .keys9) .1
+in-mask-requires-15 : tie.Need-in-mask-requires-15
+in-mask-requires-15 c κs = let s = c .before .before .before .before .before .before .before .before in ranged (s .pre .0) (s .pre .1) 9 (c .before .match .keys9) .1
 
 lacking-requires : tie.Need-lacking-requires
 lacking-requires c κs = search needs
 
 returns-17 : tie.Need-returns-17
-returns-17 c n b m = let s = c .before .before .before .before .before .before .before .before .before .before in c .lacking .ensures ∙ subset-near (s .pre .0) (s .pre .1) m _ _ (c .before .before .has14 .ensures) (c .before .has15 .ensures) (c .before .before .before .match .keys9)
+returns-17 c n b m = let s = c .before .before .before .before .before .before .before .before .before .before in c .lacking .ensures ∙ subset-near (s .pre .0) (s .pre .1) m _ _ (c .before .before .in-mask14 .ensures) (c .before .in-mask15 .ensures) (c .before .before .before .match .keys9)
 
 add-s-2 : tie.Need-add-s-2
 add-s-2 c = let s = c .before .before .before .before .before .before .before in omega (arith, two-operands _ _ _ (s .pre .0))
@@ -161,20 +161,20 @@ add-s-2 c = let s = c .before .before .before .before .before .before .before in
 shared-slice-read-s-2 : tie.Need-shared-slice-read-s-2
 shared-slice-read-s-2 c = let s = c .before .before .before .before .before .before .before .before in third-there _ _ _ (s .pre .0) 10 (inr refl) (c .before .match .keys10)
 
-has-requires-16 : tie.Need-has-requires-16
-has-requires-16 c κs = let s = c .before .before .before .before .before .before .before .before in ranged (s .pre .0) (s .pre .1) 10 (c .before .match .keys10) .0
+in-mask-requires-16 : tie.Need-in-mask-requires-16
+in-mask-requires-16 c κs = let s = c .before .before .before .before .before .before .before .before in ranged (s .pre .0) (s .pre .1) 10 (c .before .match .keys10) .0
 
-has-requires-17 : tie.Need-has-requires-17
-has-requires-17 c κs = let s = c .before .before .before .before .before .before .before .before .before in ranged (s .pre .0) (s .pre .1) 10 (c .before .before .match .keys10) .1
+in-mask-requires-17 : tie.Need-in-mask-requires-17
+in-mask-requires-17 c κs = let s = c .before .before .before .before .before .before .before .before .before in ranged (s .pre .0) (s .pre .1) 10 (c .before .before .match .keys10) .1
 
-has-requires-18 : tie.Need-has-requires-18
-has-requires-18 c κs = let s = c .before .before .before .before .before .before .before .before .before .before in ranged (s .pre .0) (s .pre .1) 10 (c .before .before .before .match .keys10) .2
+in-mask-requires-18 : tie.Need-in-mask-requires-18
+in-mask-requires-18 c κs = let s = c .before .before .before .before .before .before .before .before .before .before in ranged (s .pre .0) (s .pre .1) 10 (c .before .before .before .match .keys10) .2
 
 intersection-rule-requires : tie.Need-intersection-rule-requires
 intersection-rule-requires c κs = search needs
 
 returns-18 : tie.Need-returns-18
-returns-18 c n b m = let s = c .before .before .before .before .before .before .before .before .before .before .before .before in c .intersection-rule .ensures ∙ intersection-near (s .pre .0) (s .pre .1) m _ _ (c .before .before .before .has16 .ensures) (c .before .before .has17 .ensures) (c .before .before .before .before .before .match .keys10) _ (c .before .has18 .ensures)
+returns-18 c n b m = let s = c .before .before .before .before .before .before .before .before .before .before .before .before in c .intersection-rule .ensures ∙ intersection-near (s .pre .0) (s .pre .1) m _ _ (c .before .before .before .in-mask16 .ensures) (c .before .before .in-mask17 .ensures) (c .before .before .before .before .before .match .keys10) _ (c .before .in-mask18 .ensures)
 
 -- the kind is 11 or 12
 is-list : (c : tie.At-match-rest) → ListKind (getD (c .before .before .before .before .before .before .before .args .problem .now) (c .before .before .before .before .before .before .before .args .at) 0)
@@ -195,11 +195,11 @@ rule-near-spec =
     add-q
     shared-slice-read-q
     shared-slice-read-match
-    has-requires
+    in-mask-requires
     returns
     in-class-requires
     returns-2
-    has-requires-2
+    in-mask-requires-2
     returns-3
     in-class-requires-2
     returns-4
@@ -211,30 +211,30 @@ rule-near-spec =
     in-class-requires-6
     returns-7
     returns-8
-    has-requires-3
-    has-requires-4
+    in-mask-requires-3
+    in-mask-requires-4
     equal-rule-requires
     add-s
     shared-slice-read-s
-    has-requires-5
-    has-requires-6
-    has-requires-7
-    has-requires-8
-    has-requires-9
+    in-mask-requires-5
+    in-mask-requires-6
+    in-mask-requires-7
+    in-mask-requires-8
+    in-mask-requires-9
     union-rule-requires
-    has-requires-10
-    has-requires-11
-    has-requires-12
-    has-requires-13
+    in-mask-requires-10
+    in-mask-requires-11
+    in-mask-requires-12
+    in-mask-requires-13
     disjoint-rule-requires
-    has-requires-14
-    has-requires-15
+    in-mask-requires-14
+    in-mask-requires-15
     lacking-requires
     add-s-2
     shared-slice-read-s-2
-    has-requires-16
-    has-requires-17
-    has-requires-18
+    in-mask-requires-16
+    in-mask-requires-17
+    in-mask-requires-18
     intersection-rule-requires
     list-near-requires
     returns-9

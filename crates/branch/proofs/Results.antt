@@ -19,7 +19,7 @@ use Rattle.calculus.proofs.Bools.{and-l, and-r, and-i, or-cases, or-l, or-r, no
 use Rattle.calculus.proofs.Masks.{bit-or, bit-and, bit-zero, bit-pow, some-bit}
 use Rattle.calculus.proofs.Low.{both-low}
 use Rattle.branch.specs.declared.Branch.{Branch}
-use Rattle.branch.specs.Held.{held, noting, merging, outcome, Good}
+use Rattle.branch.specs.Held.{held, noting, merging, resultOf, Good}
 use Rattle.branch.proofs.Roots.{root-is, root-range}
 
 -- ---- masks that meet: some bit is in both
@@ -90,16 +90,16 @@ module _ (k : ℕ) (b : Branch) (good : Good k b) where
       go false e = refl
 
   -- noting nothing
-  pub noted-nothing : (h : ℕ) → outcome (noting b h 0 0) ≡ some (held b)
+  pub noted-nothing : (h : ℕ) → resultOf (noting b h 0 0) ≡ some (held b)
   unfolding noting
   noted-nothing h = rw (or-zero-r (getD (b .insides) h 0), or-zero-r (getD (b .outsides) h 0), apart h, set-getD (b .insides) h 0, set-getD (b .outsides) h 0)
 
   module _ (ks : List Term) (t h : ℕ) (e : h ≡ rootAt (held b) t) where
-    pub noted-in : (a : ℕ) → assert ks (held b) (In (term t) (setVar a)) ≡ outcome (noting b h (2 ^ a) 0)
+    pub noted-in : (a : ℕ) → assert ks (held b) (In (term t) (setVar a)) ≡ resultOf (noting b h (2 ^ a) 0)
     unfolding noting
     noted-in a = asserted-in ks b t h a e ∙ sym (rw (or-zero-r (getD (b .outsides) h 0), meet-in (getD (b .insides) h 0) (getD (b .outsides) h 0) a, apart h, set-getD (b .outsides) h 0))
 
-    pub noted-out : (a : ℕ) → assert ks (held b) (Out (term t) (setVar a)) ≡ outcome (noting b h 0 (2 ^ a))
+    pub noted-out : (a : ℕ) → assert ks (held b) (Out (term t) (setVar a)) ≡ resultOf (noting b h 0 (2 ^ a))
     unfolding noting
     noted-out a = asserted-out ks b t h a e ∙ sym (rw (or-zero-r (getD (b .insides) h 0), meet-out (getD (b .insides) h 0) (getD (b .outsides) h 0) a, apart h, set-getD (b .insides) h 0))
 
@@ -120,7 +120,7 @@ module _ (k : ℕ) (b : Branch) (good : Good k b) where
       with-out = record { parents = b .parents; insides = b .insides; outsides = set (b .outsides) h (bitOr o (2 ^ x)) }
 
       -- in x, then out of y
-      pub noted-in-out : assertAll ks (held b) (In (term t) (setVar x) ∷ Out (term t) (setVar y) ∷ []) ≡ outcome (noting b h (2 ^ x) (2 ^ y))
+      pub noted-in-out : assertAll ks (held b) (In (term t) (setVar x) ∷ Out (term t) (setVar y) ∷ []) ≡ resultOf (noting b h (2 ^ x) (2 ^ y))
       unfolding noting
       noted-in-out =
           then ks (held b) (held with-in) _ _ _ (bit o x) (bit (getD (with-in .insides) h 0) y) (asserted-in ks b t h x e) (asserted-out ks with-in t h y (e ∙ root-is (held b) t ∙ sym (root-is (held with-in) t)))
@@ -129,7 +129,7 @@ module _ (k : ℕ) (b : Branch) (good : Good k b) where
           ∙ sym (meet-out (bitOr i (2 ^ x)) o y ∙ ap (λ (z : Bool). z || bit (bitOr i (2 ^ x)) y) (meet-in i o x ∙ ap (λ (z : Bool). z || bit o x) (apart h))))
 
       -- out of x, then in y
-      pub noted-out-in : assertAll ks (held b) (Out (term t) (setVar x) ∷ In (term t) (setVar y) ∷ []) ≡ outcome (noting b h (2 ^ y) (2 ^ x))
+      pub noted-out-in : assertAll ks (held b) (Out (term t) (setVar x) ∷ In (term t) (setVar y) ∷ []) ≡ resultOf (noting b h (2 ^ y) (2 ^ x))
       unfolding noting
       noted-out-in =
           then ks (held b) (held with-out) _ _ _ (bit i x) (bit (getD (with-out .outsides) h 0) y) (asserted-out ks b t h x e) (asserted-in ks with-out t h y (e ∙ root-is (held b) t ∙ sym (root-is (held with-out) t)))
@@ -140,7 +140,7 @@ module _ (k : ℕ) (b : Branch) (good : Good k b) where
   -- ---- classes
 
   -- two roots
-  merged-roots : (lo hi : ℕ) → lo < hi → hi < 64 → mergeRoots (termsFrom 0 k) (held b) (term lo) (term hi) ≡ outcome (merging k b lo hi)
+  merged-roots : (lo hi : ℕ) → lo < hi → hi < 64 → mergeRoots (termsFrom 0 k) (held b) (term lo) (term hi) ≡ resultOf (merging k b lo hi)
   unfolding merging merge torn
   merged-roots lo hi l r =
       rw (
@@ -151,18 +151,18 @@ module _ (k : ℕ) (b : Branch) (good : Good k b) where
 
   -- h is the root of t, j that of u
   module _ (t u h j : ℕ) (e : h ≡ rootAt (held b) t) (f : j ≡ rootAt (held b) u) where
-    pub merged-already : h ≡ j → assert (termsFrom 0 k) (held b) (Same (term t) (term u)) ≡ outcome (noting b h 0 0)
+    pub merged-already : h ≡ j → assert (termsFrom 0 k) (held b) (Same (term t) (term u)) ≡ resultOf (noting b h 0 0)
     unfolding assert
     merged-already q = rw (eq-eqb (rootAt (held b) t) (rootAt (held b) u) (sym e ∙ q ∙ f)) (sym (noted-nothing h))
 
-    pub merged-up : h < j → u < 64 → assert (termsFrom 0 k) (held b) (Same (term t) (term u)) ≡ outcome (merging k b h j)
+    pub merged-up : h < j → u < 64 → assert (termsFrom 0 k) (held b) (Same (term t) (term u)) ≡ resultOf (merging k b h j)
     unfolding assert
     merged-up l r =
         let p : min (rootAt (held b) t) (rootAt (held b) u) ≡ h = omega arith in
         let q : max (rootAt (held b) t) (rootAt (held b) u) ≡ j = omega arith in
         rw (ne-eqb (rootAt (held b) t) (rootAt (held b) u) (λ z. omega arith), p, q) (merged-roots h j l (root-range (held b) (good .falls) 64 u j r f))
 
-    pub merged-down : j < h → t < 64 → assert (termsFrom 0 k) (held b) (Same (term t) (term u)) ≡ outcome (merging k b j h)
+    pub merged-down : j < h → t < 64 → assert (termsFrom 0 k) (held b) (Same (term t) (term u)) ≡ resultOf (merging k b j h)
     unfolding assert
     merged-down l r =
         let p : min (rootAt (held b) t) (rootAt (held b) u) ≡ j = omega arith in
