@@ -11,13 +11,12 @@ use lib.IntN.{pos}
 use Rattle.calculus.specs.Lists.{Each}
 use Rattle.calculus.specs.Terms.{Term}
 use Rattle.calculus.specs.Branch.{Branch, start}
-use Rattle.calculus.specs.Search.{step}
 use Rattle.calculus.specs.Problem.{Problem, termCount, setCount, constantTerms, values, Valid}
 use Rattle.calculus.specs.Reading.{Parsed, parsed, refused, _>>=_, ask, read}
 use Rattle.calculus.specs.Check.{readAssignment, assignmentOf, lowest}
 use Rattle.calculus.specs.Encoding.{Handed}
 use Rattle.calculus.specs.Calls.{Verdict, FORMS, FALSE, SPENT, NOROOM, Answer, refusal, ended, asked, call, pack, verdictNumber, answerWord, Checked, declined, HOLDS, FAILS, found, check, checkWord}
-use Rattle.calculus.specs.Order.{nextOf, Progress, Works, all-worked, none-listed, listing, no-room, spending, closing, stepping}
+use Rattle.calculus.specs.Order.{StepOf, Progress, Works, all-worked, none-listed, listing, no-room, spending, closing, stepping}
 use Rattle.calculus.specs.Demands.{Unpacks, Answers}
 use Rattle.calculus.proofs.Bools.{Each-app, Each-imp, Each-map}
 use Rattle.calculus.proofs.Asserting.{WellFormed}
@@ -25,6 +24,7 @@ use Rattle.calculus.proofs.Measure.{measure}
 use Rattle.calculus.proofs.Stepping.{step-fit}
 use Rattle.calculus.proofs.Start.{start-fit}
 use Rattle.calculus.proofs.ConstraintLaws.{constraints-in}
+use Rattle.calculus.proofs.FirstPlace.{first-place}
 use Rattle.calculus.proofs.StepBounds.{step-bounds}
 use Rattle.calculus.proofs.ReadValid.{read-valid}
 use Rattle.calculus.proofs.CallLaws.{asked-parsed, kept, follows, asks}
@@ -42,22 +42,22 @@ module _ (prob : Problem) (acc : Valid prob) (budget room : ℕ) where
   abbrev Sound : List (ℕ × Branch) → Type 0
   Sound left = Each (λ (x : ℕ × Branch). WellFormed N (constantTerms prob) (x .1)) left
 
-  next-sound : (d : ℕ) (b : Branch) → WellFormed N (constantTerms prob) b → (r : List ℕ) (cs : List Branch) → nextOf prob b ≡ step r cs → (left : List (ℕ × Branch)) → Sound left → Sound (map (λ c. (d, c)) cs ++ left)
+  next-sound : (d : ℕ) (b : Branch) → WellFormed N (constantTerms prob) b → (r : List ℕ) (cs : List Branch) → StepOf prob b r cs → (left : List (ℕ × Branch)) → Sound left → Sound (map (λ c. (d, c)) cs ++ left)
   next-sound d b F r cs q left g =
       Each-app (λ (x : ℕ × Branch). WellFormed N (constantTerms prob) (x .1)) (map (λ c. (d, c)) cs) left
       (Each-map (λ (x : ℕ × Branch). WellFormed N (constantTerms prob) (x .1)) (λ (c : Branch). (d, c)) cs
-      (Each-imp (λ c. WellFormed N (constantTerms prob) c × (measure N (setCount prob) c < measure N (setCount prob) b)) (WellFormed N (constantTerms prob)) cs (λ c z. z .0) (step-fit N (constantTerms prob) (setCount prob) (prob .constraints) (constraints-in prob acc) b F r cs q))) g
+      (Each-imp (λ c. WellFormed N (constantTerms prob) c × (measure N (setCount prob) c < measure N (setCount prob) b)) (WellFormed N (constantTerms prob)) cs (λ c z. z .0) (step-fit N (constantTerms prob) (setCount prob) (prob .constraints) (constraints-in prob acc) b F r cs (first-place prob b .1 r cs .1 q)))) g
 
   few-more : (left : List (ℕ × Branch)) → Sound left → (s e : Progress) (v : Verdict) (ps : List ℕ) → Works prob budget room left s v e ps
       → e .forms + suc N * s .steps ≤ (s .forms + length left) + suc N * e .steps
   few-more left g s e v ps (all-worked h) = omega arith
   few-more left g s e v ps (none-listed h) = omega arith
-  few-more left g s e v ps (listing {left = rest} {ps = qs} q l w) = omega (arith, few-more rest (g .1) _ e v qs w)
-  few-more left g s e v ps (no-room q l) = omega arith
-  few-more left g s e v ps (spending q l) = omega arith
-  few-more left g s e v ps (closing {left = rest} {ps = qs} q l w) = omega (arith, few-more rest (g .1) _ e v qs w, mul-suc (suc N) (s .steps))
-  few-more left g s e v ps (stepping {d = d} {b = b} {c = c} {cs = cs} {left = rest} {r = r} q l w) =
-      let small = step-bounds N (constantTerms prob) (setCount prob) b (g .0) (prob .constraints) (constraints-in prob acc) r (c ∷ cs) q .7 in
+  few-more left g s e v ps (listing {left = rest} {ps = qs} _ _ _ _ w) = omega (arith, few-more rest (g .1) _ e v qs w)
+  few-more left g s e v ps (no-room _ _ _ _) = omega arith
+  few-more left g s e v ps (spending _ _ _) = omega arith
+  few-more left g s e v ps (closing {left = rest} {ps = qs} _ _ _ w) = omega (arith, few-more rest (g .1) _ e v qs w, mul-suc (suc N) (s .steps))
+  few-more left g s e v ps (stepping {d = d} {b = b} {c = c} {cs = cs} {left = rest} {r = r} _ q _ w) =
+      let small = step-bounds N (constantTerms prob) (setCount prob) b (g .0) (prob .constraints) (constraints-in prob acc) r (c ∷ cs) (first-place prob b .1 r (c ∷ cs) .1 q) .7 in
       omega (
         arith,
         few-more (map (λ x. (suc d, x)) (c ∷ cs) ++ rest) (next-sound (suc d) b (g .0) r (c ∷ cs) q rest (g .1)) _ e v ps w,

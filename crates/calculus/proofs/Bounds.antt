@@ -9,7 +9,7 @@ use Rattle.calculus.specs.Search.{step}
 use Rattle.calculus.specs.Problem.{Problem, termCount, setCount, constantTerms}
 use Rattle.calculus.specs.Reading.{parsed, read}
 use Rattle.calculus.specs.Invariants.{WellFormed, measure}
-use Rattle.calculus.specs.Order.{nextOf}
+use Rattle.calculus.specs.Run.{nextOf}
 use Rattle.calculus.proofs.Bools.{Each-imp}
 use Rattle.calculus.proofs.MaskBounds.{Small}
 use Rattle.calculus.proofs.Stepping.{step-fit}

@@ -21,13 +21,14 @@ use Rattle.calculus.specs.Search.{Candidate, Next, solved, step, childre
 use Rattle.calculus.specs.Log.{Event, formed, stepped, log}
 use Rattle.calculus.specs.Problem.{setCount, Problem, termCount, constantTerms, Assignment, Satisfies, Valid}
 use Rattle.calculus.specs.Run.{Tally, stop, listForm, takeStep, tally, run}
-use Rattle.calculus.specs.Forms.{recordOf, listedForms, SatisfiesForm}
+use Rattle.calculus.specs.Forms.{recordOf, listedForms, AgreesForm, SatisfiesForm}
 use Rattle.calculus.specs.Run as R
 use Rattle.calculus.specs.Reading.{Parsed, parsed, refused, _>>=_, ask, read}
 use Rattle.calculus.specs.Calls.{Verdict, FORMS, FALSE, SPENT, NOROOM, Answer, refusal, ended, Outcome, verdictOf, over, asked, left, answered, call}
-use Rattle.calculus.specs.Order.{nextOf, Path, Progress, Works}
-use Rattle.calculus.specs.Demands.{Follows, SameSolutions, Stops, Asks, Kept}
+use Rattle.calculus.specs.Order.{Progress, Works}
+use Rattle.calculus.specs.Demands.{Follows, SameSolutions, Covers, OnlySolutions, Stops, Asks, Kept}
 use Rattle.calculus.proofs.Bools.{Each-all, Each-imp, Each-app}
+use Rattle.calculus.proofs.Solutions.{Some-any, Some-imp, any-witness}
 use Rattle.calculus.proofs.Records.{record-length, run-solutions}
 use Rattle.calculus.proofs.Parsing.{bind-parsed, ask-parsed}
 use Rattle.calculus.proofs.LogEvents.{log-each}
@@ -179,6 +180,12 @@ same-solutions bytes budget forms trace prob e v n c a f g =
     let z : listedForms (3 * termCount prob) c (call bytes budget forms trace .forms) ≡ listedForms (3 * termCount prob) (s .forms) (s .records)
     = rw (w .forms-are, sym (w .count-is)) (listed-app (3 * termCount prob) (s .forms) (s .records) (drop (length (s .records)) forms) (records-long (termCount prob) L budget (length forms))) in
     subst (λ (x : List (List ℕ)). Satisfies prob g ↔ Some (SatisfiesForm prob g) x) (sym z) (run-solutions prob acc budget (length forms) d g)
+
+pub covers : Covers
+covers bytes budget forms trace prob e v n c a f g h = Some-imp (SatisfiesForm prob g) (AgreesForm prob g) (λ r s. (s .0, s .1)) _ (same-solutions bytes budget forms trace prob e v n c a f g .0 h)
+
+pub only-solutions : OnlySolutions
+only-solutions bytes prob e g rs s = Some-any (SatisfiesForm prob g) (Satisfies prob g) (λ r h. any-witness prob (read-valid bytes prob e) g (h .0) (h .2)) rs s
 
 pub follows : Follows
 unfolding run

@@ -52,9 +52,12 @@ pub mod Sizes
 pub mod StepBounds
 pub mod ByteLaws
 pub mod AnswerLaws
+pub mod ChildrenLeft
 pub mod Enumerating
 pub mod RulePlaces
 pub mod FirstPlace
 pub mod RecordLaws
+pub mod Reaching
+pub mod CallQuestions
 pub mod Proved
 pub mod Bounds

@@ -3,12 +3,15 @@ use Rattle.calculus.specs.Demands.{Demands}
 use Rattle.calculus.proofs.ReadsWritten.{reads}
 use Rattle.calculus.proofs.Questions.{questions}
 use Rattle.calculus.proofs.Refuses.{refuses}
-use Rattle.calculus.proofs.CallLaws.{asks, kept, follows, stops, same-solutions}
+use Rattle.calculus.proofs.CallLaws.{asks, kept, follows, stops, same-solutions, covers, only-solutions}
+use Rattle.calculus.proofs.CallQuestions.{refusals}
 use Rattle.calculus.proofs.ByteLaws.{bytewise}
 use Rattle.calculus.proofs.AnswerLaws.{answers}
 use Rattle.calculus.proofs.NoChoice.{one-way}
-use Rattle.calculus.proofs.FirstPlace.{first-place}
-use Rattle.calculus.proofs.RecordLaws.{records, classes-once, reaches}
+use Rattle.calculus.proofs.FirstPlace.{ordered, first-place}
+use Rattle.calculus.proofs.ChildrenLeft.{children}
+use Rattle.calculus.proofs.RecordLaws.{records, states}
+use Rattle.calculus.proofs.Reaching.{reaches}
 use Rattle.calculus.proofs.AssertSpec.{asserts}
 use Rattle.calculus.proofs.Models.{models, verdicts}
 use Rattle.calculus.proofs.WorkOrder.{short-paths}
@@ -22,20 +25,25 @@ demands = record {
   questions = questions;
   refuses = refuses;
   asks = asks;
+  refusals = refusals;
   kept = kept;
   bytewise = bytewise;
   answers = answers;
   follows = follows;
   one-way = one-way;
+  ordered = ordered;
   first-place = first-place;
+  children = children;
   records = records;
-  classes-once = classes-once;
+  states = states;
   reaches = reaches;
   asserts = asserts;
   models = models;
   verdicts = verdicts;
   stops = stops;
   same-solutions = same-solutions;
+  covers = covers;
+  only-solutions = only-solutions;
   short-paths = short-paths;
   reads-assignment = reads-assignment;
   checks = checks;

@@ -59,7 +59,7 @@ module _ (n : ℕ) (v : Valuation) (b : Branch) where
     outsides = λ t A l e. a .outsides t A l (ap (λ (h : ℕ). bit (getD (b .outsides) (rootAt b h) 0) (A .index)) (omega arith) ∙ ap (λ (x : ℕ). bit x (A .index)) (sym (out-byte b n 0 t l)) ∙ e);
   }
 
-  record-agrees : Agrees n v (recordOf n b) → AgreesBranch n v b
+  pub record-agrees : Agrees n v (recordOf n b) → AgreesBranch n v b
   unfolding inside outside
   record-agrees a = record {
     merges = λ t l. a .merges t l ∙ ap (λ (x : ℕ). v .num (term x)) (root-byte b n 0 t l ∙ ap (rootAt b) (omega arith));

@@ -13,8 +13,9 @@ use Rattle.calculus.specs.Terms.{Term, SetVar, term}
 use Rattle.calculus.specs.Relations.{Rule, propagation, Relation, equal, union, disjoint, subset, intersection, unequal, Operand, Literal, propagationRows, splitRows, negationRow}
 use Rattle.calculus.specs.Meaning.{Constraint, member, nonmember, same, different, relation, negation, exactly, interval, entries}
 use Rattle.calculus.specs.Branch.{Branch, rootAt, root, Fact, In, Out, Same}
-use Rattle.calculus.specs.Search.{Move, operandOf, at, over, listing, choose, propagations, splits, rootsOf}
+use Rattle.calculus.specs.Search.{Move, operandOf, at, over, distinct, listing, choose, propagations, splits, rootsOf}
 use Rattle.calculus.specs.Order.{OneClass, Place, Root, Fires, rule1, rule2, rule3, rule4, rule5, rule6, rule7, rule8, rule9, rule10, rule11, rule12, rule13, rule14, rule15, rule16, rule17, rule18, rule19, rule20, rule19′, rule20′}
+use Rattle.calculus.proofs.ChildrenLeft.{classes}
 use Rattle.calculus.proofs.Enumerating.{Where, candidate, Placed, before-rule, Enum, enum-nil, enum-join, Yes, Ready, Lists, lists-iff, Spot, Run, spots}
 
 -- a list is its entries, by position
@@ -181,8 +182,8 @@ module _ (n : ℕ) (b : Branch) where
   fires-offered l L r s w gs (rule19′ p k x) = inl (refl, (k, refl, refl, refl, (tt, ((λ k. x (k .0)), tt))))
   fires-offered l L r s w gs (rule7 x y) = inr (refl, (refl, refl, refl, refl, (tt, ((λ k. x (k .0, k .1 .0)), ((λ k. y (k .0, k .1 .0)), tt)))))
   fires-offered l L r s w gs (rule12 h x p q u v) = inr (refl, inl (h, refl, refl, refl, ((x, tt), ((λ k. p (k .0)), ((λ k. q (k .0)), ((λ k. u (k .0)), ((λ k. v (k .0)), tt)))))))
-  fires-offered l L r s w gs (rule20 {es} h x y) = inr (refl, (h, refl, refl, refl, ((x, tt), position-each (term s) es y)))
-  fires-offered l L r s w gs (rule20′ {i} {j} h x y) = inr (refl, (h, refl, refl, refl, ((x, tt), position-each (term s) (entries i j) y)))
+  fires-offered l L r s w gs (rule20 {es = es} {ds = ds} h x y o) = inr (refl, (h, refl, refl, ap (map (λ (e : Term). Same (term s) e ∷ [])) (sym (classes (map (root b) es) ds .0 o)), ((x, tt), position-each (term s) es y)))
+  fires-offered l L r s w gs (rule20′ {i = i} {j = j} {ds = ds} h x y o) = inr (refl, (h, refl, refl, ap (map (λ (e : Term). Same (term s) e ∷ [])) (sym (classes (map (root b) (entries i j)) ds .0 o)), ((x, tt), position-each (term s) (entries i j) y)))
 
   -- and at what a constraint offers a rule fires
   module _ (l : Constraint) (L : ℕ) where
@@ -239,5 +240,30 @@ module _ (n : ℕ) (b : Branch) where
   split-fires (different t u) = λ _ _ _ _ x. absurd x
   split-fires (relation k A B C) = rows-fire (relation k A B C) 1 (operandOf A B C) (splitRows k) (split-rows k A B C)
   split-fires (negation unequal A B C v) = once-fires (negation unequal A B C v) 1 (root b v) (at v (operandOf A B C) (negationRow unequal)) (λ y. rule7 (λ k. y .1 .0 (k .0, (k .1, tt))) (λ k. y .1 .1 .0 (k .0, (k .1, tt))))
-  split-fires (exactly A es) = spot-fires (exactly A es) 1 (Root n b) (λ h. (term h, choose (rootsOf n b) b A es (term h))) (λ h d y. rule20 d (y .0 .0) (each-position (term h) es (y .1)))
-  split-fires (interval A i j) = spot-fires (interval A i j) 1 (Root n b) (λ h. (term h, choose (rootsOf n b) b A (entries i j) (term h))) (λ h d y. rule20′ d (y .0 .0) (each-position (term h) (entries i j) (y .1)))
+  split-fires (exactly A es) = spot-fires (exactly A es) 1 (Root n b) (λ h. (term h, choose (rootsOf n b) b A es (term h))) (λ h d y. rule20 d (y .0 .0) (each-position (term h) es (y .1)) (classes (map (root b) es) (distinct (map (root b) es)) .1 refl))
+  split-fires (interval A i j) = spot-fires (interval A i j) 1 (Root n b) (λ h. (term h, choose (rootsOf n b) b A (entries i j) (term h))) (λ h d y. rule20′ d (y .0 .0) (each-position (term h) (entries i j) (y .1)) (classes (map (root b) (entries i j)) (distinct (map (root b) (entries i j))) .1 refl))
+
+  -- a rule fires at a position in one way
+  pub fires-one : (l : Constraint) (L r s : ℕ) (w v : Term) (gs hs : List (List Fact)) → Fires n b l L r s w gs → Fires n b l L r s v hs → (w ≡ v) × (gs ≡ hs)
+  fires-one l L r s w v gs hs (rule1 _) (rule1 _) = (refl, refl)
+  fires-one l L r s w v gs hs (rule2 _) (rule2 _) = (refl, refl)
+  fires-one l L r s w v gs hs (rule3 _) (rule3 _) = (refl, refl)
+  fires-one l L r s w v gs hs (rule4 _) (rule4 _) = (refl, refl)
+  fires-one l L r s w v gs hs (rule5 _ _ _) (rule5 _ _ _) = (refl, refl)
+  fires-one l L r s w v gs hs (rule6 _ _ _) (rule6 _ _ _) = (refl, refl)
+  fires-one l L r s w v gs hs (rule8 _ _ _) (rule8 _ _ _) = (refl, refl)
+  fires-one l L r s w v gs hs (rule9 _ _ _) (rule9 _ _ _) = (refl, refl)
+  fires-one l L r s w v gs hs (rule10 _ _ _ _) (rule10 _ _ _ _) = (refl, refl)
+  fires-one l L r s w v gs hs (rule11 _ _ _ _) (rule11 _ _ _ _) = (refl, refl)
+  fires-one l L r s w v gs hs (rule13 _ _ _) (rule13 _ _ _) = (refl, refl)
+  fires-one l L r s w v gs hs (rule14 _ _ _) (rule14 _ _ _) = (refl, refl)
+  fires-one l L r s w v gs hs (rule15 _ _ _) (rule15 _ _ _) = (refl, refl)
+  fires-one l L r s w v gs hs (rule16 _ _ _) (rule16 _ _ _) = (refl, refl)
+  fires-one l L r s w v gs hs (rule17 _ _ _) (rule17 _ _ _) = (refl, refl)
+  fires-one l L r s w v gs hs (rule18 _ _ _ _) (rule18 _ _ _ _) = (refl, refl)
+  fires-one l L r s w v gs hs (rule7 _ _) (rule7 _ _) = (refl, refl)
+  fires-one l L r s w v gs hs (rule12 _ _ _ _ _ _) (rule12 _ _ _ _ _ _) = (refl, refl)
+  fires-one l L r s w v gs hs (rule19 _ _ _) (rule19 _ _ _) = (refl, refl)
+  fires-one l L r s w v gs hs (rule19′ _ _ _) (rule19′ _ _ _) = (refl, refl)
+  fires-one l L r s w v gs hs (rule20 {es = es} {ds = ds} _ _ _ o) (rule20 {ds = fs} _ _ _ p) = (refl, ap (map (λ (e : Term). Same (term s) e ∷ [])) (sym (classes (map (root b) es) ds .0 o) ∙ classes (map (root b) es) fs .0 p))
+  fires-one l L r s w v gs hs (rule20′ {i = i} {j = j} {ds = ds} _ _ _ o) (rule20′ {ds = fs} _ _ _ p) = (refl, ap (map (λ (e : Term). Same (term s) e ∷ [])) (sym (classes (map (root b) (entries i j)) ds .0 o) ∙ classes (map (root b) (entries i j)) fs .0 p))

@@ -39,9 +39,14 @@ Some-zip : (P Q R : Branch → Type 0) → ((b : Branch) → P b → Q b → R b
 Some-zip P Q R f bs e (here {x = b} q) = here (f b (e .0) q)
 Some-zip P Q R f bs e (there {xs = cs} s) = there (Some-zip P Q R f cs (e .1) s)
 
-Some-any : (P : Branch → Type 0) (X : Type 0) → ((b : Branch) → P b → X) → (bs : List Branch) → Some P bs → X
-Some-any P X f bs (here {x = b} p) = f b p
-Some-any P X f bs (there {xs = cs} s) = Some-any P X f cs s
+module _ {A : Type 0} (P : A → Type 0) where
+  pub Some-any : (X : Type 0) → ((b : A) → P b → X) → (bs : List A) → Some P bs → X
+  Some-any X f bs (here {x = b} p) = f b p
+  Some-any X f bs (there {xs = cs} s) = Some-any X f cs s
+
+  pub Some-imp : (Q : A → Type 0) → ((b : A) → P b → Q b) → (bs : List A) → Some P bs → Some Q bs
+  Some-imp Q f bs (here {x = b} p) = here (f b p)
+  Some-imp Q f bs (there {xs = cs} s) = there (Some-imp Q f cs s)
 
 -- a constant of the class of h, if it has one
 module _ (prob : Problem) where
@@ -84,12 +89,13 @@ module _ (prob : Problem) (acc : Valid prob) where
         Some-zip (Full N Q M (prob .constraints) (constraints-in prob acc)) (Sat v) (SatisfiesBranch prob g) (λ b F s. (w .0, sat-agrees N Q v b (F .0) s, w .1)) (problemForms prob) forms-full
         (log-sat N Q M (prob .constraints) (constraints-in prob acc) v (constants-distinct prob acc v (own prob acc g (w .0))) (w .2) (N * suc M) (start N) (start-fit N Q) (start-sat v N))
 
-    from-solved : (b : Branch) → SatisfiesBranch prob g b → Satisfies prob g
-    from-solved b h = Each-zip (InScope prob) (Holds (values prob g (h .0))) (Holds (values prob g (λ _. pos 0))) (prob .constraints) (λ l a q. holds-any prob acc g (h .0) (λ _. pos 0) l a q) (acc .refers) (h .2)
+    -- no meaning looks at a witness
+    pub any-witness : (witness : Term → ℤ) → Each (Holds (values prob g witness)) (prob .constraints) → Satisfies prob g
+    any-witness witness h = Each-zip (InScope prob) (Holds (values prob g witness)) (Holds (values prob g (λ _. pos 0))) (prob .constraints) (λ l a q. holds-any prob acc g witness (λ _. pos 0) l a q) (acc .refers) h
 
     -- an assignment satisfies the problem exactly where it satisfies one of the forms
     pub solutions : Satisfies prob g ↔ Some (SatisfiesBranch prob g) (problemForms prob)
-    solutions = (to-forms, Some-any (SatisfiesBranch prob g) (Satisfies prob g) from-solved (problemForms prob))
+    solutions = (to-forms, Some-any (SatisfiesBranch prob g) (Satisfies prob g) (λ b h. any-witness (h .0) (h .2)) (problemForms prob))
 
   -- ---- the model
 

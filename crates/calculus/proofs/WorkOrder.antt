@@ -15,12 +15,12 @@ use Rattle.calculus.specs.Branch.{Branch, start}
 use Rattle.calculus.specs.Search.{Next, solved, step, next}
 use Rattle.calculus.specs.Log.{Event, formed, stepped, log}
 use Rattle.calculus.specs.Problem.{setCount, Problem, termCount, constantTerms, Valid}
-use Rattle.calculus.specs.Run.{Tally, stop, listForm, takeStep, tally, run}
+use Rattle.calculus.specs.Run.{Tally, stop, listForm, takeStep, tally, nextOf, run}
 use Rattle.calculus.specs.Forms.{recordOf}
 use Rattle.calculus.specs.Run as R
 use Rattle.calculus.specs.Reading.{parsed, read}
 use Rattle.calculus.specs.Calls.{Verdict, FORMS, FALSE, SPENT, NOROOM, verdictOf}
-use Rattle.calculus.specs.Order.{nextOf, Path, begin, onward, Progress, unbegun, withForm, withStep, Works, all-worked, none-listed, listing, no-room, spending, closing, stepping}
+use Rattle.calculus.specs.Order.{PathTo, begin, onward, Progress, unbegun, withForm, withStep, Works, all-worked, none-listed, listing, no-room, spending, closing, stepping}
 use Rattle.calculus.specs.Demands.{ShortPaths}
 use Rattle.calculus.proofs.Bools.{Each-imp}
 use Rattle.calculus.proofs.Asserting.{WellFormed}
@@ -30,6 +30,8 @@ use Rattle.calculus.proofs.LogLaws.{at-zero}
 use Rattle.calculus.proofs.Start.{start-fit, start-measure}
 use Rattle.calculus.proofs.ConstraintLaws.{constraints-in}
 use Rattle.calculus.proofs.Records.{record-length}
+use Rattle.calculus.proofs.FirstPlace.{first-place}
+use Rattle.calculus.proofs.RecordLaws.{records}
 use Rattle.calculus.proofs.ReadValid.{read-valid}
 
 pub some-each : (P : Branch → Type 0) (c : Branch) (cs : List Branch) → Each P cs → Some (λ x. x ≡ c) cs → P c
@@ -50,14 +52,23 @@ module _ (prob : Problem) (acc : Valid prob) where
   bound = N * suc M
 
   -- a branch at the end of a path of d steps
-  abbrev At : ℕ → Branch → Type 0
-  At d b = WellFormed N K b × (d + measure N M b ≤ bound)
+  pub record At (d : ℕ) (b : Branch) : Type 0 where
+    pub fit : WellFormed N K b
+    pub short : d + measure N M b ≤ bound
+    pub path : PathTo prob d b
 
   at-start : At 0 (start N)
-  at-start = (start-fit N K, omega (arith, le-of-eq (start-measure N M)))
+  at-start = record { fit = start-fit N K; short = omega (arith, le-of-eq (start-measure N M)); path = begin }
 
   at-step : (d : ℕ) (b : Branch) → At d b → (r : List ℕ) (cs : List Branch) → nextOf prob b ≡ step r cs → Each (λ c. At (suc d) c × (measure N M c < measure N M b)) cs
-  at-step d b a r cs e = Each-imp (λ c. WellFormed N K c × (measure N M c < measure N M b)) (λ c. At (suc d) c × (measure N M c < measure N M b)) cs (λ c z. ((z .0, omega (arith, z .1, a .1)), z .1)) (step-fit N K M (prob .constraints) (constraints-in prob acc) b (a .0) r cs e)
+  at-step d b a r cs e = each cs (step-fit N K M (prob .constraints) (constraints-in prob acc) b (a .fit) r cs e) (λ c z. z)
+    where
+      each : (ds : List Branch) → Each (λ c. WellFormed N K c × (measure N M c < measure N M b)) ds → ((c : Branch) → Some (λ x. x ≡ c) ds → Some (λ x. x ≡ c) cs) → Each (λ c. At (suc d) c × (measure N M c < measure N M b)) ds
+      each [] z i = tt
+      each (c ∷ ds) z i = (
+        (record { fit = z .0 .0; short = omega (arith, z .0 .1, a .short); path = onward (a .path) (first-place prob b .1 r cs .0 e) (i c (here refl)) }, z .0 .1),
+        each ds (z .1) (λ x y. i x (there y)),
+      )
 
   solved-step : (r : List ℕ) (cs : List Branch) → solved ≡ step r cs → ⊥
   solved-step r cs e = let w : false ≡ true = cc in false≢true w
@@ -69,15 +80,15 @@ module _ (prob : Problem) (acc : Valid prob) where
       go zero q = absurd (solved-step r cs (sym (at-zero N K M (prob .constraints) (constraints-in prob acc) b F (le-of-eq q)) ∙ e))
       go (suc x) q = omega arith
 
-  path-at : (d : ℕ) (b : Branch) → Path prob d b → At d b
+  path-at : (d : ℕ) (b : Branch) → PathTo prob d b → At d b
   path-at d b begin = at-start
-  path-at d b (onward {d = c} {b = a} {r = r} {cs = cs} p e s) = some-each (λ x. At (suc c) x × (measure N M x < measure N M a)) b cs (at-step c a (path-at c a p) r cs e) s .0
+  path-at d b (onward {d = c} {b = a} {r = r} {cs = cs} p e s) = some-each (λ x. At (suc c) x × (measure N M x < measure N M a)) b cs (at-step c a (path-at c a p) r cs (first-place prob a .1 r cs .1 e)) s .0
 
 pub short-paths : ShortPaths
 short-paths bytes prob q d b p =
     let acc = read-valid bytes prob q in
     let a = path-at prob acc d b p in
-    (omega (arith, a .1), λ r cs e. omega (arith, a .1, some-left prob acc b (a .0) r cs e))
+    (omega (arith, a .short), λ r cs e. omega (arith, a .short, some-left prob acc b (a .fit) r cs (first-place prob b .1 r cs .1 e)))
 
 -- what was done, and then what a reading of the log did
 abbrev plus : Progress → Tally → Progress
@@ -111,12 +122,9 @@ module _ (prob : Problem) (acc : Valid prob) (budget room : ℕ) where
           let z : s .forms + 0 ≡ suc c = omega arith in
           ([], moved [] s FORMS (verdictOf R.DONE (s .forms + 0)) s (plus s (stop R.DONE)) [] (ap (verdictOf R.DONE) (sym z)) (plus-stop s R.DONE) (all-worked (λ w. omega arith)), tt)
 
-  runs-solved : (d : ℕ) (b : Branch) → d ≤ bound prob acc → nextOf prob b ≡ solved → (left : List (ℕ × Branch)) (es : List Event) → Runs left es → Runs ((d, b) ∷ left) (formed b ∷ es)
-  runs-solved d b k e left es h s l q x y = go (leb (length (recordOf (termCount prob) b)) q) refl
+  runs-solved : (d : ℕ) (b : Branch) → At prob acc d b → nextOf prob b ≡ solved → (left : List (ℕ × Branch)) (es : List Event) → Runs left es → Runs ((d, b) ∷ left) (formed b ∷ es)
+  runs-solved d b a e left es h s l q x y = go (leb (length (recordOf (termCount prob) b)) q) refl
     where
-      T3 : length (recordOf (termCount prob) b) ≡ 3 * termCount prob
-      T3 = record-length b (termCount prob) 0
-
       go : (t : Bool) → leb (length (recordOf (termCount prob) b)) q ≡ t
           → (ps : List ℕ) × Works prob budget room ((d, b) ∷ left) s (verdictOf (tally (termCount prob) l q (formed b ∷ es) .end) (s .forms + tally (termCount prob) l q (formed b ∷ es) .forms)) (plus s (tally (termCount prob) l q (formed b ∷ es))) ps × Each (λ d. d ≤ bound prob acc) ps
       go true t =
@@ -127,20 +135,20 @@ module _ (prob : Problem) (acc : Valid prob) (budget room : ℕ) where
           let f : suc (s .forms) + u .forms ≡ s .forms + suc (u .forms) = omega arith in
           rw (t, tally) (
             d ∷ i .0,
-            listing {s = s} e (omega (arith, T3, fits)) (moved left (withForm s r) (verdictOf (u .end) (suc (s .forms) + u .forms)) (verdictOf (u .end) (s .forms + suc (u .forms))) (plus (withForm s r) u) (plus s (listForm r u)) (i .0)
+            listing {s = s} (a .path) (first-place prob b .0 .0 e) (records (termCount prob) b r .1 refl) (omega (arith, fits)) (moved left (withForm s r) (verdictOf (u .end) (suc (s .forms) + u .forms)) (verdictOf (u .end) (s .forms + suc (u .forms))) (plus (withForm s r) u) (plus s (listForm r u)) (i .0)
                 (ap (verdictOf (u .end)) f) (done-is refl f (append-assoc (s .records) r (u .records)) refl) (i .1)),
-            (k, i .2),
+            (omega (arith, a .short), i .2),
           )
       go false t =
           let full = leb-false (length (recordOf (termCount prob) b)) q t in
-          rw (t, tally) (d ∷ [], moved ((d, b) ∷ left) s NOROOM NOROOM s (plus s (stop R.NOROOM)) (d ∷ []) refl (plus-stop s R.NOROOM) (no-room {s = s} e (omega (arith, T3, full))), (k, tt))
+          rw (t, tally) (d ∷ [], moved ((d, b) ∷ left) s NOROOM NOROOM s (plus s (stop R.NOROOM)) (d ∷ []) refl (plus-stop s R.NOROOM) (no-room {s = s} (a .path) (first-place prob b .0 .0 e) (records (termCount prob) b (recordOf (termCount prob) b) .1 refl) (omega (arith, full))), (omega (arith, a .short), tt))
 
   -- a step, given how its children go
-  runs-step : (d : ℕ) (b : Branch) → suc d ≤ bound prob acc → (r : List ℕ) (cs : List Branch) → nextOf prob b ≡ step r cs → (left : List (ℕ × Branch)) (es : List Event)
+  runs-step : (d : ℕ) (b : Branch) → PathTo prob d b → suc d ≤ bound prob acc → (r : List ℕ) (cs : List Branch) → nextOf prob b ≡ step r cs → (left : List (ℕ × Branch)) (es : List Event)
       → Runs (map (λ c. (suc d, c)) cs ++ left) es → Runs ((d, b) ∷ left) (stepped r ∷ es)
-  runs-step d b k r cs e left es h s zero q x y =
-      (d ∷ [], moved ((d, b) ∷ left) s SPENT SPENT s (plus s (stop R.SPENT)) (d ∷ []) refl (plus-stop s R.SPENT) (spending {s = s} e (omega arith)), (omega arith, tt))
-  runs-step d b k r cs e left es h s (suc l) q x y = go cs refl
+  runs-step d b p k r cs e left es h s zero q x y =
+      (d ∷ [], moved ((d, b) ∷ left) s SPENT SPENT s (plus s (stop R.SPENT)) (d ∷ []) refl (plus-stop s R.SPENT) (spending {s = s} p (first-place prob b .1 r cs .0 e) (omega arith)), (omega arith, tt))
+  runs-step d b p k r cs e left es h s (suc l) q x y = go cs refl
     where
       u : Tally
       u = tally (termCount prob) l q es
@@ -158,8 +166,8 @@ module _ (prob : Problem) (acc : Valid prob) (budget room : ℕ) where
       j = moved (map (λ c. (suc d, c)) cs ++ left) (withStep s r) (verdictOf (tally (termCount prob) l q es .end) (s .forms + tally (termCount prob) l q es .forms)) (verdictOf (tally (termCount prob) l q es .end) (s .forms + tally (termCount prob) l q es .forms)) (plus (withStep s r) (tally (termCount prob) l q es)) (plus s (takeStep r (tally (termCount prob) l q es))) (i .0) refl same (i .1)
 
       go : (ds : List Branch) → cs ≡ ds → (ps : List ℕ) × Works prob budget room ((d, b) ∷ left) s (verdictOf (tally (termCount prob) l q es .end) (s .forms + tally (termCount prob) l q es .forms)) (plus s (takeStep r (tally (termCount prob) l q es))) ps × Each (λ d. d ≤ bound prob acc) ps
-      go [] z = (suc d ∷ i .0, closing (e ∙ ap (step r) z) more (subst (λ (ds : List Branch). Works prob budget room (map (λ c. (suc d, c)) ds ++ left) (withStep s r) (verdictOf (tally (termCount prob) l q es .end) (s .forms + tally (termCount prob) l q es .forms)) (plus s (takeStep r (tally (termCount prob) l q es))) (i .0)) z j), (k, i .2))
-      go (c ∷ ds) z = (i .0, stepping (e ∙ ap (step r) z) more (subst (λ (ds : List Branch). Works prob budget room (map (λ c. (suc d, c)) ds ++ left) (withStep s r) (verdictOf (tally (termCount prob) l q es .end) (s .forms + tally (termCount prob) l q es .forms)) (plus s (takeStep r (tally (termCount prob) l q es))) (i .0)) z j), i .2)
+      go [] z = (suc d ∷ i .0, closing p (first-place prob b .1 r [] .0 (e ∙ ap (step r) z)) more (subst (λ (ds : List Branch). Works prob budget room (map (λ c. (suc d, c)) ds ++ left) (withStep s r) (verdictOf (tally (termCount prob) l q es .end) (s .forms + tally (termCount prob) l q es .forms)) (plus s (takeStep r (tally (termCount prob) l q es))) (i .0)) z j), (k, i .2))
+      go (c ∷ ds) z = (i .0, stepping p (first-place prob b .1 r (c ∷ ds) .0 (e ∙ ap (step r) z)) more (subst (λ (ds : List Branch). Works prob budget room (map (λ c. (suc d, c)) ds ++ left) (withStep s r) (verdictOf (tally (termCount prob) l q es .end) (s .forms + tally (termCount prob) l q es .forms)) (plus s (takeStep r (tally (termCount prob) l q es))) (i .0)) z j), i .2)
 
   -- the children of a list, each by its own log
   runs-all : (fuel d : ℕ) → ((b : Branch) → At prob acc d b → measure (termCount prob) (setCount prob) b ≤ fuel → (left : List (ℕ × Branch)) (es : List Event) → Runs left es → Runs ((d, b) ∷ left) (log (termCount prob) (constantTerms prob) (prob .constraints) fuel b ++ es))
@@ -172,14 +180,14 @@ module _ (prob : Problem) (acc : Valid prob) (budget room : ℕ) where
 
   runs-log : (fuel d : ℕ) (b : Branch) → At prob acc d b → measure (termCount prob) (setCount prob) b ≤ fuel → (left : List (ℕ × Branch)) (es : List Event) → Runs left es
       → Runs ((d, b) ∷ left) (log (termCount prob) (constantTerms prob) (prob .constraints) fuel b ++ es)
-  runs-log zero d b a l left es g = runs-solved d b (omega (arith, a .1)) (at-zero (termCount prob) (constantTerms prob) (setCount prob) (prob .constraints) (constraints-in prob acc) b (a .0) l) left es g
+  runs-log zero d b a l left es g = runs-solved d b a (at-zero (termCount prob) (constantTerms prob) (setCount prob) (prob .constraints) (constraints-in prob acc) b (a .fit) l) left es g
   runs-log (suc fuel) d b a l left es g = go (nextOf prob b) refl (runs-log fuel (suc d))
     where
       go : (x : Next) → nextOf prob b ≡ x → ((c : Branch) → At prob acc (suc d) c → measure (termCount prob) (setCount prob) c ≤ fuel → (left : List (ℕ × Branch)) (es : List Event) → Runs left es → Runs ((suc d, c) ∷ left) (log (termCount prob) (constantTerms prob) (prob .constraints) fuel c ++ es))
           → Runs ((d, b) ∷ left) (log (termCount prob) (constantTerms prob) (prob .constraints) (suc fuel) b ++ es)
-      go solved q ih = rw (q, log) (runs-solved d b (omega (arith, a .1)) q left es g)
+      go solved q ih = rw (q, log) (runs-solved d b a q left es g)
       go (step r cs) q ih = rw (q, log)
-          (runs-step d b (omega (arith, a .1, some-left prob acc b (a .0) r cs q)) r cs q left (gather (log (termCount prob) (constantTerms prob) (prob .constraints) fuel) cs ++ es)
+          (runs-step d b (a .path) (omega (arith, a .short, some-left prob acc b (a .fit) r cs q)) r cs q left (gather (log (termCount prob) (constantTerms prob) (prob .constraints) fuel) cs ++ es)
           (runs-all fuel (suc d) ih cs (Each-imp (λ c. At prob acc (suc d) c × (measure (termCount prob) (setCount prob) c < measure (termCount prob) (setCount prob) b)) (λ c. At prob acc (suc d) c × (measure (termCount prob) (setCount prob) c ≤ fuel)) cs (λ c z. (z .0, omega (arith, z .1))) (at-step prob acc d b a r cs q)) left es g))
 
   -- the whole run

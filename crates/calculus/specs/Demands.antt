@@ -9,17 +9,18 @@ use lib.ListN.{length, getD, take, drop}
 use lib.IntN.{ℤ, pos}
 use Rattle.calculus.specs.Lists.{Each, Some, picked, bit}
 use Rattle.calculus.specs.Terms.{Term, SetVar, term, setVar}
-use Rattle.calculus.specs.Meaning.{Constraint, member, _∈_, Holds}
+use Rattle.calculus.specs.Meaning.{Constraint, member, _∈_, Valuation, Holds}
 use Rattle.calculus.specs.Problem.{Problem, constantCount, termCount, setCount, constantTerms, Assignment, values, Satisfies}
 use Rattle.calculus.specs.Encoding.{Bytes, Written, Handed, encodeHanded, WrittenAssignment}
 use Rattle.calculus.specs.Reading.{Parsed, parsed, refused, read}
-use Rattle.calculus.specs.Questions.{Questions}
+use Rattle.calculus.specs.Questions.{FirstNoOfRun, FirstNoOfCheck, Questions}
 use Rattle.calculus.specs.Branch.{Branch, start, rootAt, Fact, known, assert, assertAll}
 use Rattle.calculus.specs.Search.{distinct, Next, solved, step}
-use Rattle.calculus.specs.Forms.{recordOf, listedForms, Agrees, SatisfiesForm, modelNumber, model, handedModel}
+use Rattle.calculus.specs.Forms.{recordOf, listedForms, Agrees, AgreesForm, SatisfiesForm, modelNumber, model, handedModel}
+use Rattle.calculus.specs.Run.{nextOf}
 use Rattle.calculus.specs.Check.{readAssignment, assignmentOf}
 use Rattle.calculus.specs.Calls.{Verdict, FORMS, FALSE, SPENT, NOROOM, Answer, refusal, ended, asked, call, answerNumber, answerWord, Checked, declined, HOLDS, FAILS, check, checkedNumber, checkWord}
-use Rattle.calculus.specs.Order.{KnownIn, KnownOut, OneClass, Then, Conflicts, Ranged, Reached, Recorded, Once, Place, Before, nextOf, Enabled, Path, Progress, unbegun, Works}
+use Rattle.calculus.specs.Order.{KnownIn, KnownOut, OneClass, Then, Conflicts, Ranged, Reached, TrueOf, Recorded, Once, Place, Before, AssertsAll, Leaves, Enabled, Solved, StepOf, PathTo, Progress, unbegun, Works}
 
 -- ---- demand 1
 
@@ -44,6 +45,12 @@ Asks = (bytes : List ℕ) (budget room : ℕ) →
     (10000 < budget → asked bytes budget room ≡ refused 12)
     × (budget ≤ 10000 → room < 4 * budget → asked bytes budget room ≡ refused 13)
     × (budget ≤ 10000 → 4 * budget ≤ room → asked bytes budget room ≡ parsed prob))
+
+-- A call is refused with the number of the first of its questions that is answered "no".
+abbrev pub Refusals : Type 0
+Refusals = (bytes : List ℕ) → Bytes bytes → (n : ℕ) →
+    ((budget room : ℕ) → (asked bytes budget room ≡ refused n) ↔ FirstNoOfRun bytes budget room n)
+    × ((assignment : List ℕ) → Bytes assignment → (check bytes assignment ≡ declined n) ↔ FirstNoOfCheck bytes assignment n)
 
 -- A refusal writes nothing; otherwise what is written stays inside, and later bytes stay as they were.
 abbrev pub Kept : Type 0
@@ -93,27 +100,34 @@ abbrev pub OneWay : Type 0
 OneWay = (prob : Problem) (budget room : ℕ) (left : List (ℕ × Branch)) → (s : Progress) (v w : Verdict) (e f : Progress) (ps qs : List ℕ) →
     Works prob budget room left s v e ps → Works prob budget room left s w f qs → (v ≡ w) × (e ≡ f) × (ps ≡ qs)
 
--- A solved form is a branch where no rule applies; a step is that of the first place, its record says so, and its children are those that do not conflict.
+-- Of two places where rules apply one is before the other, or they are one place: "the first" leaves no choice.
+abbrev pub Ordered : Type 0
+Ordered = (prob : Problem) (b : Branch) (p q : Place) → Enabled prob b p → Enabled prob b q → Before p q ⊎ (Before q p ⊎ (p ≡ q))
+
+-- The search of Search.antt finds what the order of work asks for: a solved form, or the step of the first place.
 abbrev pub FirstPlace : Type 0
-FirstPlace = (prob : Problem) (b : Branch) →
-    (nextOf prob b ≡ solved → (p : Place) → ¬ Enabled prob b p)
-    × ((r : List ℕ) (cs : List Branch) → nextOf prob b ≡ step r cs → (p : Place)
-    × Enabled prob b p × ((q : Place) → Enabled prob b q → ¬ Before q p)
-    × (r ≡ p .rule ∷ p .constraint ∷ p .concerned .index ∷ length cs ∷ [])
-    × (cs ≡ picked (assertAll (constantTerms prob) b) (p .alternatives)))
+FirstPlace = (prob : Problem) (b : Branch) → (nextOf prob b ≡ solved ↔ Solved prob b) × ((r : List ℕ) (cs : List Branch) → nextOf prob b ≡ step r cs ↔ StepOf prob b r cs)
 
--- A form's record shows each term's root and exactly what is known of its class.
+-- Its children are those that a step leaves, and those of rule 20 stand once each, in the order of their first entries.
+abbrev pub Children : Type 0
+Children = ((constants : List Term) (b : Branch) →
+    ((fs : List Fact) (o : Option Branch) → AssertsAll constants b fs o ↔ (assertAll constants b fs ≡ o))
+    × ((gs : List (List Fact)) (cs : List Branch) → Leaves constants b gs cs ↔ (picked (assertAll constants b) gs ≡ cs)))
+    × ((es ds : List Term) → Once [] es ds ↔ (distinct es ≡ ds))
+
+-- A form's record is the one that shows each term's root and exactly what is known of its class.
 abbrev pub Records : Type 0
-Records = (n : ℕ) (b : Branch) → Recorded n b (recordOf n b)
+Records = (n : ℕ) (b : Branch) (r : List ℕ) → Recorded n b r ↔ (recordOf n b ≡ r)
 
--- The classes that rule 20 merges with stand once each, in the order of their first entries.
-abbrev pub ClassesOnce : Type 0
-ClassesOnce = (es : List Term) → Once [] es (distinct es)
+-- And it states exactly that: a valuation agrees with it where every fact that the branch knows is true.
+abbrev pub States : Type 0
+States = (n : ℕ) (constants : List Term) (m : ℕ) (b : Branch) → Reached n constants m b → (v : Valuation) →
+    Agrees n v (recordOf n b) ↔ ((k : ℕ) (f : Fact) → Ranged n k f → known b f ≡ true → TrueOf v f)
 
--- At the start each term is its own class and nothing is known, and asserting leads from there to every branch of a run.
+-- At the start each term is its own class and nothing is known, and asserting leads from there to the end of every path. (Every branch of a run is at the end of one: Works.)
 abbrev pub Reaches : Type 0
 Reaches = ((n : ℕ) (t u : Term) (A : SetVar) → ¬ KnownIn (start n) t A × ¬ KnownOut (start n) t A × (OneClass (start n) t u → t ≡ u))
-    × ((bytes : List ℕ) (prob : Problem) → read bytes ≡ parsed prob → (d : ℕ) (b : Branch) → Path prob d b → Reached (termCount prob) (constantTerms prob) (setCount prob) b)
+    × ((bytes : List ℕ) (prob : Problem) → read bytes ≡ parsed prob → (d : ℕ) (b : Branch) → PathTo prob d b → Reached (termCount prob) (constantTerms prob) (setCount prob) b)
 
 -- Asserting a fact, merging among them, gives the branch with that fact and what it unites, or says that it conflicts; a root is the lowest of its class.
 abbrev pub Asserts : Type 0
@@ -167,10 +181,19 @@ SameSolutions = (bytes : List ℕ) (budget : ℕ) (forms trace : List ℕ) (prob
     (v : Verdict) (n c : ℕ) → call bytes budget forms trace .answer ≡ ended v n c → (v ≡ FORMS) ⊎ (v ≡ FALSE) →
     (g : Assignment) → Satisfies prob g ↔ Some (SatisfiesForm prob g) (listedForms (3 * termCount prob) c (call bytes budget forms trace .forms))
 
+-- Its two halves: every solution agrees with a listed record, and (in any run, however it ended) whatever satisfies a listed record is a solution.
+abbrev pub Covers : Type 0
+Covers = (bytes : List ℕ) (budget : ℕ) (forms trace : List ℕ) (prob : Problem) → read bytes ≡ parsed prob →
+    (v : Verdict) (n c : ℕ) → call bytes budget forms trace .answer ≡ ended v n c → (v ≡ FORMS) ⊎ (v ≡ FALSE) →
+    (g : Assignment) → Satisfies prob g → Some (AgreesForm prob g) (listedForms (3 * termCount prob) c (call bytes budget forms trace .forms))
+
+abbrev pub OnlySolutions : Type 0
+OnlySolutions = (bytes : List ℕ) (prob : Problem) → read bytes ≡ parsed prob → (g : Assignment) (rs : List (List ℕ)) → Some (SatisfiesForm prob g) rs → Satisfies prob g
+
 -- No path is longer than terms × (sets + 1), a step that closes its end included. (Of a call's own paths: the last part of Follows.)
 abbrev pub ShortPaths : Type 0
-ShortPaths = (bytes : List ℕ) (prob : Problem) → read bytes ≡ parsed prob → (d : ℕ) (b : Branch) → Path prob d b →
-    (d ≤ termCount prob * suc (setCount prob)) × ((r : List ℕ) (cs : List Branch) → nextOf prob b ≡ step r cs → suc d ≤ termCount prob * suc (setCount prob))
+ShortPaths = (bytes : List ℕ) (prob : Problem) → read bytes ≡ parsed prob → (d : ℕ) (b : Branch) → PathTo prob d b →
+    (d ≤ termCount prob * suc (setCount prob)) × ((r : List ℕ) (cs : List Branch) → StepOf prob b r cs → suc d ≤ termCount prob * suc (setCount prob))
 
 -- ---- the assignment check
 
@@ -204,20 +227,25 @@ pub record Demands : Type 0 where
   pub questions : Questions
   pub refuses : Refuses
   pub asks : Asks
+  pub refusals : Refusals
   pub kept : Kept
   pub bytewise : Bytewise
   pub answers : Answers
   pub follows : Follows
   pub one-way : OneWay
+  pub ordered : Ordered
   pub first-place : FirstPlace
+  pub children : Children
   pub records : Records
-  pub classes-once : ClassesOnce
+  pub states : States
   pub reaches : Reaches
   pub asserts : Asserts
   pub models : Models
   pub verdicts : Verdicts
   pub stops : Stops
   pub same-solutions : SameSolutions
+  pub covers : Covers
+  pub only-solutions : OnlySolutions
   pub short-paths : ShortPaths
   pub reads-assignment : ReadsAssignment
   pub checks : Checks

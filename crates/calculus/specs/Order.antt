@@ -1,19 +1,17 @@
--- Document 01 a second time, as relations and without fuel: what asserting gives, which place is first, how a run goes, and what its paths are. A run goes by the first telling's next, recordOf and start: FirstPlace, Records and Reaches (Demands.antt) tie them to this one.
+-- Document 01's order of work a second time, as relations, without fuel and without the search of Search.antt: what asserting gives, what a record shows, which place is first, which children a step leaves, what a path is, and how a run goes. Of the first telling it uses branches with what they know, start and assert (Branch.antt); Reaches and Asserts (Demands.antt) say what those are.
 use mathlib.Core.Path.{_≡_, refl}
 use mathlib.Core.Logic.{_⊎_, _↔_, _≢_}
 use mathlib.Core.Bool.{Bool, true, false}
-use mathlib.Core.Option.{some}
+use mathlib.Core.Option.{Option, none, some}
 use mathlib.Core.List.{List, [], _∷_, _++_, map}
 use Prim.Native.Nat.{ℕ, zero, suc, _+_, _*_, _≤_, _<_}
 use lib.ListN.{length, getD}
 use Rattle.calculus.specs.Lists.{Each, Some, bit}
 use Rattle.calculus.specs.Terms.{Term, SetVar, term, setVar}
 use Rattle.calculus.specs.Relations.{equal, union, disjoint, subset, intersection, unequal}
-use Rattle.calculus.specs.Meaning.{Constraint, member, nonmember, same, different, relation, negation, exactly, interval, entries}
+use Rattle.calculus.specs.Meaning.{Constraint, member, nonmember, same, different, relation, negation, exactly, interval, entries, _∈_, Valuation}
 use Rattle.calculus.specs.Branch.{Branch, start, rootAt, root, Fact, In, Out, Same, known, assert}
-use Rattle.calculus.specs.Search.{distinct, Next, solved, step, next}
 use Rattle.calculus.specs.Problem.{Problem, termCount, constantTerms}
-use Rattle.calculus.specs.Forms.{recordOf}
 use Rattle.calculus.specs.Calls.{Verdict, FORMS, FALSE, SPENT, NOROOM}
 
 -- ---- what a branch knows
@@ -56,6 +54,12 @@ pub data Reached (n : ℕ) (constants : List Term) (m : ℕ) : Branch → Type 0
   begun : Reached n constants m (start n)
   asserted : {b c : Branch} (f : Fact) → Reached n constants m b → Ranged n m f → assert constants b f ≡ some c → Reached n constants m c
 
+-- a fact is true of a valuation
+abbrev pub TrueOf : Valuation → Fact → Type 0
+TrueOf v (In t A) = v .num t ∈ v .members A
+TrueOf v (Out t A) = ¬ (v .num t ∈ v .members A)
+TrueOf v (Same t u) = v .num t ≡ v .num u
+
 -- ---- what a record shows
 
 -- each term's root, and exactly what is known of its class
@@ -69,7 +73,7 @@ pub record Recorded (n : ℕ) (b : Branch) (r : List ℕ) : Type 0 where
 
 -- Once seen es ds: ds are the terms of es that are not seen, each once, in the order in which they first stand there
 pub data Once : List Term → List Term → List Term → Type 0 where
-  none-left : {seen : List Term} → Once seen [] []
+  none-more : {seen : List Term} → Once seen [] []
   again : {seen es ds : List Term} {e : Term} → Some (λ x. x ≡ e) seen → Once seen es ds → Once seen (e ∷ es) ds
   anew : {seen es ds : List Term} {e : Term} → ¬ Some (λ x. x ≡ e) seen → Once (e ∷ seen) es ds → Once seen (e ∷ es) (e ∷ ds)
 
@@ -113,23 +117,49 @@ module _ (n : ℕ) (b : Branch) where
     rule19′ : {A : SetVar} {i j : Term} (p : ℕ) → p < length (entries i j) → ¬ KnownIn b (getD (entries i j) p (term 0)) A → Fires (interval A i j) 0 19 p (root b (getD (entries i j) p (term 0))) ((In (getD (entries i j) p (term 0)) A ∷ []) ∷ [])
     rule7 : {A B C : SetVar} {w : Term} → ¬ (KnownIn b w A × KnownOut b w B) → ¬ (KnownOut b w A × KnownIn b w B) → Fires (negation unequal A B C w) 1 7 0 (root b w) ((In w A ∷ Out w B ∷ []) ∷ (Out w A ∷ In w B ∷ []) ∷ [])
     rule12 : {A B C : SetVar} {h : ℕ} → Root h → KnownIn b (term h) C → ¬ KnownIn b (term h) A → ¬ KnownOut b (term h) A → ¬ KnownIn b (term h) B → ¬ KnownOut b (term h) B → Fires (relation union A B C) 1 12 h (term h) ((In (term h) A ∷ []) ∷ (Out (term h) A ∷ In (term h) B ∷ []) ∷ [])
-    rule20 : {A : SetVar} {h : ℕ} {es : List Term} → Root h → KnownIn b (term h) A → ((p : ℕ) → p < length es → ¬ OneClass b (term h) (getD es p (term 0))) → Fires (exactly A es) 1 20 h (term h) (map (λ e. Same (term h) e ∷ []) (distinct (map (root b) es)))
-    rule20′ : {A : SetVar} {h : ℕ} {i j : Term} → Root h → KnownIn b (term h) A → ((p : ℕ) → p < length (entries i j) → ¬ OneClass b (term h) (getD (entries i j) p (term 0))) → Fires (interval A i j) 1 20 h (term h) (map (λ e. Same (term h) e ∷ []) (distinct (map (root b) (entries i j))))
+    rule20 : {A : SetVar} {h : ℕ} {es ds : List Term} → Root h → KnownIn b (term h) A → ((p : ℕ) → p < length es → ¬ OneClass b (term h) (getD es p (term 0))) → Once [] (map (root b) es) ds → Fires (exactly A es) 1 20 h (term h) (map (λ e. Same (term h) e ∷ []) ds)
+    rule20′ : {A : SetVar} {h : ℕ} {i j : Term} {ds : List Term} → Root h → KnownIn b (term h) A → ((p : ℕ) → p < length (entries i j) → ¬ OneClass b (term h) (getD (entries i j) p (term 0))) → Once [] (map (root b) (entries i j)) ds → Fires (interval A i j) 1 20 h (term h) (map (λ e. Same (term h) e ∷ []) ds)
 
--- ---- paths, and how a run goes
+-- ---- the children of a step
+
+module _ (constants : List Term) where
+  -- the facts of a child, asserted one after the other: the branch as it then is, or none where one of them conflicts
+  pub data AssertsAll : Branch → List Fact → Option Branch → Type 0 where
+    all-asserted : {b : Branch} → AssertsAll b [] (some b)
+    one-conflicts : {b : Branch} {f : Fact} {fs : List Fact} → assert constants b f ≡ none → AssertsAll b (f ∷ fs) none
+    one-asserted : {b c : Branch} {f : Fact} {fs : List Fact} {o : Option Branch} → assert constants b f ≡ some c → AssertsAll c fs o → AssertsAll b (f ∷ fs) o
+
+  -- the children left of branch b, in the order of their alternatives: one that conflicts is dropped
+  pub data Leaves (b : Branch) : List (List Fact) → List Branch → Type 0 where
+    none-left : Leaves b [] []
+    child-dropped : {fs : List Fact} {gs : List (List Fact)} {cs : List Branch} → AssertsAll b fs none → Leaves b gs cs → Leaves b (fs ∷ gs) cs
+    child-left : {fs : List Fact} {c : Branch} {gs : List (List Fact)} {cs : List Branch} → AssertsAll b fs (some c) → Leaves b gs cs → Leaves b (fs ∷ gs) (c ∷ cs)
+
+-- ---- steps and paths
 
 module _ (prob : Problem) where
-  abbrev pub nextOf : Branch → Next
-  nextOf b = next (termCount prob) (constantTerms prob) (prob .constraints) b
-
   -- a rule applies at a place of the problem
   abbrev pub Enabled : Branch → Place → Type 0
   Enabled b p = (p .constraint < length (prob .constraints)) × Fires (termCount prob) b (getD (prob .constraints) (p .constraint) (member (term 0) (setVar 0))) (p .phase) (p .rule) (p .position) (p .concerned) (p .alternatives)
 
-  -- the steps applied on the way from the start to a branch
-  pub data Path : ℕ → Branch → Type 0 where
-    begin : Path 0 (start (termCount prob))
-    onward : {d : ℕ} {b c : Branch} {r : List ℕ} {cs : List Branch} → Path d b → nextOf b ≡ step r cs → Some (λ x. x ≡ c) cs → Path (suc d) c
+  -- a solved form: a branch where at no place a rule applies
+  abbrev pub Solved : Branch → Type 0
+  Solved b = (p : Place) → ¬ Enabled b p
+
+  -- the step of a branch: its place, where a rule applies and before which none does; its trace record r and the children cs that it leaves
+  pub record StepOf (b : Branch) (r : List ℕ) (cs : List Branch) : Type 0 where
+    pub place : Place
+    pub enabled : Enabled b place
+    pub first : (q : Place) → Enabled b q → ¬ Before q place
+    pub leaves : Leaves (constantTerms prob) b (place .alternatives) cs
+    pub traced : r ≡ place .rule ∷ place .constraint ∷ place .concerned .index ∷ length cs ∷ []
+
+  -- a path: the number of steps applied on the way from the start to a branch
+  pub data PathTo : ℕ → Branch → Type 0 where
+    begin : PathTo 0 (start (termCount prob))
+    onward : {d : ℕ} {b c : Branch} {r : List ℕ} {cs : List Branch} → PathTo d b → StepOf b r cs → Some (λ x. x ≡ c) cs → PathTo (suc d) c
+
+-- ---- how a run goes
 
 -- what a run has done so far
 pub record Progress : Type 0 where
@@ -148,18 +178,18 @@ abbrev pub withStep : Progress → List ℕ → Progress
 withStep s r = record { steps = suc (s .steps); forms = s .forms; records = s .records; trace = s .trace ++ r }
 
 module _ (prob : Problem) (budget room : ℕ) where
-  -- Works left s v e ps: with the branches of `left` to be worked, each with the steps on the way to it, and s done, the run ends in v with e done; ps are the lengths of the paths to each form, closed branch and stop from here on.
+  -- Works left s v e ps: with the branches of `left` to be worked, each at the end of a path of so many steps, and s done, the run ends in v with e done; ps are the lengths of the paths to each form, closed branch and stop from here on.
   pub data Works : List (ℕ × Branch) → Progress → Verdict → Progress → List ℕ → Type 0 where
     all-worked : {s : Progress} → s .forms ≢ 0 → Works [] s FORMS s []
     none-listed : {s : Progress} → s .forms ≡ 0 → Works [] s FALSE s []
     -- a form first: its record fits what is left of the form buffer, or not
-    listing : {d : ℕ} {b : Branch} {left : List (ℕ × Branch)} {s e : Progress} {v : Verdict} {ps : List ℕ} → nextOf prob b ≡ solved → length (s .records) + 3 * termCount prob ≤ room
-        → Works left (withForm s (recordOf (termCount prob) b)) v e ps → Works ((d, b) ∷ left) s v e (d ∷ ps)
-    no-room : {d : ℕ} {b : Branch} {left : List (ℕ × Branch)} {s : Progress} → nextOf prob b ≡ solved → room < length (s .records) + 3 * termCount prob → Works ((d, b) ∷ left) s NOROOM s (d ∷ [])
+    listing : {d : ℕ} {b : Branch} {left : List (ℕ × Branch)} {s e : Progress} {v : Verdict} {ps r : List ℕ} → PathTo prob d b → Solved prob b → Recorded (termCount prob) b r → length (s .records) + length r ≤ room
+        → Works left (withForm s r) v e ps → Works ((d, b) ∷ left) s v e (d ∷ ps)
+    no-room : {d : ℕ} {b : Branch} {left : List (ℕ × Branch)} {s : Progress} {r : List ℕ} → PathTo prob d b → Solved prob b → Recorded (termCount prob) b r → room < length (s .records) + length r → Works ((d, b) ∷ left) s NOROOM s (d ∷ [])
     -- otherwise, if steps equal the budget
-    spending : {d : ℕ} {b : Branch} {left : List (ℕ × Branch)} {s : Progress} {r : List ℕ} {cs : List Branch} → nextOf prob b ≡ step r cs → s .steps ≡ budget → Works ((d, b) ∷ left) s SPENT s (d ∷ [])
+    spending : {d : ℕ} {b : Branch} {left : List (ℕ × Branch)} {s : Progress} {r : List ℕ} {cs : List Branch} → PathTo prob d b → StepOf prob b r cs → s .steps ≡ budget → Works ((d, b) ∷ left) s SPENT s (d ∷ [])
     -- otherwise a step: the branch closes, or its children are worked in order before what is left
-    closing : {d : ℕ} {b : Branch} {left : List (ℕ × Branch)} {s e : Progress} {v : Verdict} {ps r : List ℕ} → nextOf prob b ≡ step r [] → s .steps ≢ budget
+    closing : {d : ℕ} {b : Branch} {left : List (ℕ × Branch)} {s e : Progress} {v : Verdict} {ps r : List ℕ} → PathTo prob d b → StepOf prob b r [] → s .steps ≢ budget
         → Works left (withStep s r) v e ps → Works ((d, b) ∷ left) s v e (suc d ∷ ps)
-    stepping : {d : ℕ} {b c : Branch} {cs : List Branch} {left : List (ℕ × Branch)} {s e : Progress} {v : Verdict} {ps r : List ℕ} → nextOf prob b ≡ step r (c ∷ cs) → s .steps ≢ budget
+    stepping : {d : ℕ} {b c : Branch} {cs : List Branch} {left : List (ℕ × Branch)} {s e : Progress} {v : Verdict} {ps r : List ℕ} → PathTo prob d b → StepOf prob b r (c ∷ cs) → s .steps ≢ budget
         → Works (map (λ x. (suc d, x)) (c ∷ cs) ++ left) (withStep s r) v e ps → Works ((d, b) ∷ left) s v e ps

@@ -1,4 +1,4 @@
--- Questions 1 to 11 once more, told from the writing side and without the reader: which is the first that is answered "no".
+-- The questions once more, told from the writing side and without the reader: which is the first that is answered "no".
 use mathlib.Core.Path.{_≡_}
 use mathlib.Core.Logic.{_↔_}
 use mathlib.Core.List.{List, [], _∷_, _++_}
@@ -8,8 +8,8 @@ use lib.IntN.{ℤ, pos, negsuc}
 use lib.Signed.{_≤ℤ_}
 use Rattle.calculus.specs.Lists.{Each, gather}
 use Rattle.calculus.specs.Meaning.{Constraint, _∈_}
-use Rattle.calculus.specs.Problem.{Rising, Letters, Refers, uses}
-use Rattle.calculus.specs.Encoding.{Bytes, twoBytes, encodeConstraint, Fits16}
+use Rattle.calculus.specs.Problem.{Problem, Rising, Letters, Refers, uses}
+use Rattle.calculus.specs.Encoding.{Bytes, twoBytes, encodeConstraint, Written, Handed, Fits16, WrittenAssignment}
 use Rattle.calculus.specs.Reading.{refused, read}
 
 -- The types below that have a number say that it is that of the first "no" of these bytes; Next says so of the bytes that follow what is asked about.
@@ -125,6 +125,20 @@ module _ (cs : List ℤ) (ns ss : List ℕ) where
 -- of these bytes question n is the first that is answered "no"
 abbrev pub FirstNo : List ℕ → ℕ → Type 0
 FirstNo = OfLength (OfConstants (λ cs. OfVariables (λ ns. OfSets (λ ss. OfConstraints cs ns ss))))
+
+-- ---- of a call
+
+pub data FirstNoOfRun (bytes : List ℕ) (budget room : ℕ) : ℕ → Type 0 where
+  of-problem : {n : ℕ} → FirstNo bytes n → FirstNoOfRun bytes budget room n
+  -- Is the budget at most 10,000? 12
+  over-budget : (prob : Problem) → Written bytes prob → 10000 < budget → FirstNoOfRun bytes budget room 12
+  -- Is the trace buffer, of room bytes, at least 4 × budget bytes? 13
+  short-trace : (prob : Problem) → Written bytes prob → budget ≤ 10000 → room < 4 * budget → FirstNoOfRun bytes budget room 13
+
+pub data FirstNoOfCheck (bytes assignment : List ℕ) : ℕ → Type 0 where
+  of-problem : {n : ℕ} → FirstNo bytes n → FirstNoOfCheck bytes assignment n
+  -- Is the assignment one for the problem, and no more? 14
+  no-assignment : (prob : Problem) → Written bytes prob → ((g : Handed) → ¬ WrittenAssignment prob assignment g) → FirstNoOfCheck bytes assignment 14
 
 -- The reader refuses with the number of the first question that is answered "no".
 abbrev pub Questions : Type 0

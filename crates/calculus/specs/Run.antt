@@ -5,6 +5,7 @@ use Prim.Native.Nat.{ℕ, zero, suc, _+_, _-_, _*_}
 use lib.ListN.{length}
 use lib.Dec.{leb}
 use Rattle.calculus.specs.Branch.{Branch, start}
+use Rattle.calculus.specs.Search.{Next, next}
 use Rattle.calculus.specs.Log.{Event, formed, stepped, log}
 use Rattle.calculus.specs.Problem.{Problem, termCount, setCount, constantTerms}
 use Rattle.calculus.specs.Forms.{recordOf}
@@ -35,6 +36,10 @@ tally n left room [] = stop DONE
 tally n left room (formed b ∷ es) = cond (leb (length (recordOf n b)) room) (listForm (recordOf n b) (tally n left (room - length (recordOf n b)) es)) (stop NOROOM)
 tally n zero room (stepped r ∷ es) = stop SPENT
 tally n (suc left) room (stepped r ∷ es) = takeStep r (tally n left room es)
+
+-- what is done next in a branch of a problem
+abbrev pub nextOf : Problem → Branch → Next
+nextOf prob b = next (termCount prob) (constantTerms prob) (prob .constraints) b
 
 -- no path is longer than terms × (sets + 1), so that is fuel enough
 unfoldable pub run : Problem → ℕ → ℕ → Tally

@@ -1,10 +1,11 @@
 -- What a call answers, question by question, and when it runs.
 use mathlib.Core.Path.{_≡_, refl, sym, ap, _∙_, subst}
-use mathlib.Core.List.{List}
-use Prim.Native.Nat.{ℕ, _*_, _≤_, _<_}
+use mathlib.Core.List.{List, [], _∷_}
+use Prim.Native.Nat.{ℕ, suc, _*_, _≤_, _<_}
 use native.Mathlib.Omega.{arith}
-use lib.ListN.{length}
+use lib.ListN.{length, getD}
 use Rattle.calculus.specs.Problem.{Problem}
+use Rattle.calculus.specs.Encoding.{Bytes}
 use Rattle.calculus.specs.Reading.{Parsed, parsed, refused, read}
 use Rattle.calculus.specs.Run.{End, DONE, SPENT, NOROOM, Tally, run}
 use Rattle.calculus.specs.Calls.{Answer, refusal, ended, Outcome, verdictOf, asked, call, answered, answerWord}
@@ -15,10 +16,9 @@ use Rattle.problem.specs.declared.Table.{Table}
 use Rattle.problem.specs.Table.{problemTable, tableIs, tableOf, Opened}
 use Rattle.problem.proofs.Access.{opened}
 use Rattle.output.specs.declared.Counts.{Counts}
-use Rattle.output.specs.State.{State, state, stopNumber, left}
+use Rattle.output.specs.State.{State, state, stopNumber, endOf, left}
 use Rattle.solver.specs.Outcomes.{Runs}
 use Rattle.capi.specs.Contract.{RunContract}
-use Rattle.capi.specs.Ended.{endOf}
 use Rattle.capi.proofs.Contracted.{contract}
 
 -- the table of a refused problem has the question's number
@@ -33,19 +33,24 @@ table-refused bs tab e n = go (read bs) refl
 pub table-opened : (bs : List ℕ) (tab : Table) → tab ≡ tableOf bs → tab .refusal ≡ 0 → Opened bs tab
 table-opened bs tab e z = record { made = e; accepted = z }
 
+-- the elements of a slice of bytes are bytes
+pub bytes-of : (xs : List ℕ) → ((i : ℕ) → getD xs i 0 < 256) → Bytes xs
+bytes-of [] h = tt
+bytes-of (x ∷ xs) h = (h 0, bytes-of xs (λ i. h (suc i)))
+
 end-number : (e : End) → endOf (stopNumber e) ≡ e
 end-number DONE = refl
 end-number SPENT = refl
 end-number NOROOM = refl
 
 module _ (bs : List ℕ) (budget : ℕ) (F T : List ℕ) where
-  contract-of : (o : Outcome) → call bs budget F T ≡ o → (w : ℕ) → w ≡ answerWord (o .answer) → RunContract bs budget F T w (o .forms) (o .trace)
-  contract-of o e w q = rw q (subst (λ (x : Outcome). RunContract bs budget F T (answerWord (x .answer)) (x .forms) (x .trace)) e (contract bs budget F T))
+  contract-of : Bytes bs → (o : Outcome) → call bs budget F T ≡ o → (w : ℕ) → w ≡ answerWord (o .answer) → RunContract bs budget F T w (o .forms) (o .trace)
+  contract-of is o e w q = rw q (subst (λ (x : Outcome). RunContract bs budget F T (answerWord (x .answer)) (x .forms) (x .trace)) e (contract bs budget F T is))
 
   -- ---- refusals
 
-  pub run-refused : (n : ℕ) → asked bs budget (length T) ≡ refused n → (w : ℕ) → w ≡ answerWord (refusal n) → RunContract bs budget F T w F T
-  run-refused n e w q = contract-of (record { answer = refusal n; forms = F; trace = T }) (kept bs budget F T .0 n e) w q
+  pub run-refused : Bytes bs → (n : ℕ) → asked bs budget (length T) ≡ refused n → (w : ℕ) → w ≡ answerWord (refusal n) → RunContract bs budget F T w F T
+  run-refused is n e w q = contract-of is (record { answer = refusal n; forms = F; trace = T }) (kept bs budget F T .0 n e) w q
 
   pub first-refused : (n : ℕ) → read bs ≡ refused n → asked bs budget (length T) ≡ refused n
   first-refused n e = asks bs budget (length T) .0 n e
@@ -83,5 +88,5 @@ module _ (bs : List ℕ) (budget : ℕ) (F T : List ℕ) where
           let s = steps-few bs budget F T prob accepted _ _ _ e in
           (omega (arith, s), forms-fit bs budget F T prob accepted _ _ _ e)
 
-      pub run-ended : (w : ℕ) → w ≡ answerWord (ended (verdictOf (endOf (c .stop)) (c .forms)) (c .steps) (c .forms)) → RunContract bs budget F T w G U
-      run-ended w q = contract-of (record { answer = ended (verdictOf (endOf (c .stop)) (c .forms)) (c .steps) (c .forms); forms = G; trace = U }) called w q
+      pub run-ended : Bytes bs → (w : ℕ) → w ≡ answerWord (ended (verdictOf (endOf (c .stop)) (c .forms)) (c .steps) (c .forms)) → RunContract bs budget F T w G U
+      run-ended is w q = contract-of is (record { answer = ended (verdictOf (endOf (c .stop)) (c .forms)) (c .steps) (c .forms); forms = G; trace = U }) called w q

@@ -10,7 +10,7 @@ use lib.IntN.{pos}
 use borrow.Author.Tests.{lt-ltb, le-ltb}
 use Rattle.calculus.specs.Problem.{Problem, setCount, values}
 use Rattle.calculus.specs.Reading.{Parsed, parsed, refused, read, _>>=_}
-use Rattle.calculus.specs.Encoding.{Handed}
+use Rattle.calculus.specs.Encoding.{Bytes, Handed}
 use Rattle.calculus.specs.Check.{readAssignment, assignmentOf, lowest}
 use Rattle.calculus.specs.Calls.{refusal, Checked, declined, HOLDS, FAILS, found, check, answerWord, checkWord}
 use Rattle.calculus.proofs.Checking.{checks}
@@ -32,9 +32,9 @@ holds-word : 5 ≡ checkWord HOLDS
 unfolding checkWord
 holds-word = refl
 
-module _ (bs hs : List ℕ) where
+module _ (bs hs : List ℕ) (is : Bytes bs) (are : Bytes hs) where
   contract-of : (c : Checked) → check bs hs ≡ c → (w : ℕ) → w ≡ checkWord c → CheckContract bs hs w
-  contract-of c e w q = rw q (subst (λ (x : Checked). CheckContract bs hs (checkWord x)) e (contract bs hs))
+  contract-of c e w q = rw q (subst (λ (x : Checked). CheckContract bs hs (checkWord x)) e (contract bs hs is are))
 
   -- the word of a refusal is that of a run's
   declined-word : (n : ℕ) → answerWord (refusal n) ≡ checkWord (declined n)

@@ -1,23 +1,23 @@
 -- An assignment check whose word is the definition's meets the contract.
 use mathlib.Core.Path.{_≡_, refl, sym, ap, _∙_, subst}
 use mathlib.Core.Logic.{_↔_, _⊎_, inl, inr}
-use mathlib.Core.Option.{Option, none, some}
 use mathlib.Core.List.{List}
 use Prim.Native.Nat.{ℕ, _<_}
 use native.Mathlib.Omega.{arith}
 use lib.ListN.{length}
-use lib.IntN.{pos}
-use Rattle.calculus.specs.Problem.{Problem, values, Satisfies}
-use Rattle.calculus.specs.Reading.{Parsed, parsed, refused, _>>=_, read}
-use Rattle.calculus.specs.Encoding.{Handed}
-use Rattle.calculus.specs.Check.{readAssignment, assignmentOf, lowest}
-use Rattle.calculus.specs.Calls.{Checked, declined, HOLDS, FAILS, found, check, checkWord, checkedNumber}
+use Rattle.calculus.specs.Problem.{Problem, Satisfies}
+use Rattle.calculus.specs.Reading.{Parsed, parsed, refused, read}
+use Rattle.calculus.specs.Encoding.{Bytes, Handed}
+use Rattle.calculus.specs.Check.{readAssignment, assignmentOf}
+use Rattle.calculus.specs.Calls.{Checked, declined, HOLDS, FAILS, check, checkWord, checkedNumber}
 use Rattle.calculus.proofs.AnswerLaws.{answers}
 use Rattle.calculus.proofs.Checking.{checks}
-use Rattle.calculus.proofs.ReadAssignment.{assignment-refusals}
-use Rattle.capi.specs.Contract.{verdictIn, numberIn, TrueAt, Given, CheckContract}
+use Rattle.calculus.proofs.ReadsWritten.{reads}
+use Rattle.calculus.proofs.ReadAssignment.{reads-assignment}
+use Rattle.calculus.proofs.CallQuestions.{refusals}
+use Rattle.capi.specs.Contract.{verdictIn, numberIn, stepsIn, formsIn, TrueAt, Given, CheckContract}
 
-module _ (bytes assignment : List ℕ) where
+module _ (bytes assignment : List ℕ) (is : Bytes bytes) (are : Bytes assignment) where
   abbrev word : ℕ
   word = checkWord (check bytes assignment)
 
@@ -48,42 +48,20 @@ module _ (bytes assignment : List ℕ) where
       first (parsed prob) p = second prob p (readAssignment prob assignment) refl
       first (refused n) p = absurd (h n (checks bytes assignment .0 n p))
 
-  -- with a problem and an assignment the check says HOLDS or FAILS
-  tested : (prob : Problem) (g : Handed) → read bytes ≡ parsed prob → readAssignment prob assignment ≡ parsed g
-      → check bytes assignment ≡ found (parsed (lowest (values prob (assignmentOf g) (λ _. pos 0)) 0 (prob .constraints)))
-  unfolding check _>>=_
-  tested prob g p q = rw (p, q) refl
-
-  not-declined : (o : Option ℕ) (n : ℕ) → found (parsed o) ≡ declined n → ⊥
-  not-declined none n e = let y : _≡_ {A = ℕ} 0 1 = cc in omega arith
-  not-declined (some i) n e = let y : _≡_ {A = ℕ} 0 1 = cc in omega arith
-
-  -- a declined check names the problem's question, or 14
-  abbrev DeclinedBy : ℕ → Type 0
-  DeclinedBy n = (read bytes ≡ refused n) ⊎ ((prob : Problem) × (read bytes ≡ parsed prob) × (readAssignment prob assignment ≡ refused n) × (n ≡ 14))
-
-  declined-by : (n : ℕ) → check bytes assignment ≡ declined n → DeclinedBy n
-  declined-by n e = first (read bytes) refl
-    where
-      same-number : (m : ℕ) → check bytes assignment ≡ declined m → m ≡ n
-      same-number m f = let x : declined m ≡ declined n = sym f ∙ e in cc
-
-      second : (prob : Problem) → read bytes ≡ parsed prob → (m : Parsed Handed) → readAssignment prob assignment ≡ m → DeclinedBy n
-      second prob p (parsed g) q = absurd (not-declined (lowest (values prob (assignmentOf g) (λ _. pos 0)) 0 (prob .constraints)) n (sym (tested prob g p q) ∙ e))
-      second prob p (refused m) q =
-          let z : m ≡ n = same-number m (checks bytes assignment .1 prob p .0 m q) in
-          inr (prob, p, q ∙ ap refused z, sym z ∙ assignment-refusals prob assignment m q)
-
-      first : (m : Parsed Problem) → read bytes ≡ m → DeclinedBy n
-      first (parsed prob) p = second prob p (readAssignment prob assignment) refl
-      first (refused m) p = inl (p ∙ ap refused (same-number m (checks bytes assignment .0 m p)))
+  -- what is counted
+  counts : (c : Checked) → check bytes assignment ≡ c → (stepsIn word ≡ 0) × (formsIn word ≡ 0)
+  counts (declined n) e = let u = answers bytes .1 assignment .0 n e in (u .steps-are, u .forms-are)
+  counts HOLDS e = let u = answers bytes .1 assignment .1 e in (u .steps-are, u .forms-are)
+  counts (FAILS i) e = let u = answers bytes .1 assignment .2 i e in (u .steps-are, u .forms-are)
 
   pub contract : CheckContract bytes assignment word
   contract = record {
+    bytewise = (is, are);
     determined = refl;
-    refusals = λ q. refused-at q (check bytes assignment) refl;
+    refusals = λ n. ((λ q. refusals bytes is n .1 assignment are .0 (refused-at n q (check bytes assignment) refl)), λ x. declined-word n (refusals bytes is n .1 assignment are .1 x));
     holds = ((λ q. says q (check bytes assignment) refl), said);
     fails = λ i. ((λ q. named i q (check bytes assignment) refl), naming i);
+    nothing-else = (one-of (check bytes assignment) refl, (λ q. no-number q (check bytes assignment) refl), counts (check bytes assignment) refl .0, counts (check bytes assignment) refl .1);
   }
     where
       Satisfied : Type 0
@@ -92,14 +70,27 @@ module _ (bytes assignment : List ℕ) where
       Named : ℕ → Type 0
       Named i = (prob : Problem) × (g : Handed) × Given bytes assignment prob g × (i < length (prob .constraints)) × ¬ TrueAt prob g i × ((j : ℕ) → j < i → TrueAt prob g j)
 
-      refused-at : verdictIn word ≡ 0 → (c : Checked) → check bytes assignment ≡ c
-          → (read bytes ≡ refused (numberIn word)) ⊎ ((prob : Problem) × (read bytes ≡ parsed prob) × (readAssignment prob assignment ≡ refused (numberIn word)) × (numberIn word ≡ 14))
-      refused-at q (declined n) e = rw (declined-word n e .1) (declined-by n e)
-      refused-at q HOLDS e = absurd (omega (arith, q, holds-word e))
-      refused-at q (FAILS i) e = absurd (omega (arith, q, fails-word i e .0))
+      refused-at : (n : ℕ) → (verdictIn word ≡ 0) × (numberIn word ≡ n) → (c : Checked) → check bytes assignment ≡ c → check bytes assignment ≡ declined n
+      refused-at n q (declined m) e = e ∙ ap declined (sym (declined-word m e .1) ∙ q .1)
+      refused-at n q HOLDS e = absurd (omega (arith, q .0, holds-word e))
+      refused-at n q (FAILS i) e = absurd (omega (arith, q .0, fails-word i e .0))
+
+      one-of : (c : Checked) → check bytes assignment ≡ c → (verdictIn word ≡ 0) ⊎ ((verdictIn word ≡ 5) ⊎ (verdictIn word ≡ 6))
+      one-of (declined n) e = inl (declined-word n e .0)
+      one-of HOLDS e = inr (inl (holds-word e))
+      one-of (FAILS i) e = inr (inr (fails-word i e .0))
+
+      no-number : verdictIn word ≡ 5 → (c : Checked) → check bytes assignment ≡ c → numberIn word ≡ 0
+      no-number q (declined n) e = absurd (omega (arith, q, declined-word n e .0))
+      no-number q HOLDS e = answers bytes .1 assignment .1 e .number-is
+      no-number q (FAILS i) e = absurd (omega (arith, q, fails-word i e .0))
 
       given : (a : Asked) → Given bytes assignment (a .prob) (a .given)
-      given a = record { reads = a .reads; hands = a .hands }
+      given a = record { written = reads bytes is (a .prob) .0 (a .reads); handed = reads-assignment (a .prob) assignment are .0 (a .given) .0 (a .hands) }
+
+      -- and back
+      back : (prob : Problem) (g : Handed) → Given bytes assignment prob g → (read bytes ≡ parsed prob) × (readAssignment prob assignment ≡ parsed g)
+      back prob g h = (reads bytes is prob .1 (h .written), reads-assignment prob assignment are .0 g .1 (h .handed))
 
       says : verdictIn word ≡ 5 → (c : Checked) → check bytes assignment ≡ c → Satisfied
       says q (declined n) e = absurd (omega (arith, q, declined-word n e .0))
@@ -109,7 +100,7 @@ module _ (bytes assignment : List ℕ) where
       says q (FAILS i) e = absurd (omega (arith, q, fails-word i e .0))
 
       said : Satisfied → verdictIn word ≡ 5
-      said (prob, g, h, s) = holds-word (checks bytes assignment .1 prob (h .reads) .1 g (h .hands) .0 .1 s)
+      said (prob, g, h, s) = let r = back prob g h in holds-word (checks bytes assignment .1 prob (r .0) .1 g (r .1) .0 .1 s)
 
       named : (i : ℕ) → (verdictIn word ≡ 6) × (numberIn word ≡ i) → (c : Checked) → check bytes assignment ≡ c → Named i
       named i q (declined n) e = absurd (omega (arith, q .0, declined-word n e .0))
@@ -121,4 +112,4 @@ module _ (bytes assignment : List ℕ) where
           (a .prob, a .given, given a, c .0, c .1, c .2)
 
       naming : (i : ℕ) → Named i → (verdictIn word ≡ 6) × (numberIn word ≡ i)
-      naming i (prob, g, h, l, n, t) = fails-word i (checks bytes assignment .1 prob (h .reads) .1 g (h .hands) .1 i .1 (l, n, t))
+      naming i (prob, g, h, l, n, t) = let r = back prob g h in fails-word i (checks bytes assignment .1 prob (r .0) .1 g (r .1) .1 i .1 (l, n, t))

@@ -8,7 +8,7 @@ ghost use mathlib.Core.Path.{_≡_};
 ghost use Prim.Native.Nat.{_≤_};
 ghost use Rattle.calculus.specs.Calls.{refusal, ended, verdictOf, answerWord};
 ghost use Rattle.capi.specs.Contract.{RunContract, CheckContract};
-ghost use Rattle.capi.specs.Ended.{endOf};
+ghost use Rattle.output.specs.State.{endOf};
 
 // The word of a refusal.
 fn declined(n: u8) -> u64

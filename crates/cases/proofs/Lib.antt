@@ -6,6 +6,7 @@ pub mod Rules
 pub mod Refusals
 pub mod Limits
 pub mod Order
+pub mod Paths
 pub mod Assignments
 pub mod AnswerWords
 pub mod Listings

@@ -32,6 +32,10 @@ stopNumber DONE = 0
 stopNumber SPENT = 1
 stopNumber NOROOM = 2
 
+-- and the end that a number says
+abbrev pub endOf : ℕ → End
+endOf stop = cond (eqb stop 0) DONE (cond (eqb stop 1) SPENT NOROOM)
+
 -- a solved form of n terms: its record is written after the others if it fits
 unfoldable pub listed : ℕ → List ℕ → State → State
 listed n r s = cond (leb (3 * n * s .counts .forms + 3 * n) (length (s .forms)))
