@@ -8,12 +8,11 @@ use lib.Dec.{eqb}
 use lib.Bits.{bitAnd, bitOr}
 use Rattle.calculus.specs.Lists.{upFrom, any, gather, first}
 use Rattle.calculus.specs.Terms.{Term, term, setVar}
-use Rattle.calculus.specs.Relations.{Rule, propagation, equal, union, disjoint, subset, intersection, unequal, Operand, Literal, negationRow}
+use Rattle.calculus.specs.Relations.{Rule, propagation, equal, union, disjoint, subset, intersection, unequal, Operand, Literal, negationRow, rows}
 use Rattle.calculus.specs.Relations as R
 use Rattle.calculus.specs.Meaning.{Constraint}
 use Rattle.calculus.specs.Branch.{Branch, rootAt, In, Out, Same, known}
 use Rattle.calculus.specs.Invariants.{Falls}
-use Rattle.calculus.proofs.Tables.{rows}
 use Rattle.problem.specs.Table.{kindOf}
 use Rattle.places.specs.Places.{spanOf, entriesOf, firstAt}
 use Rattle.guards.specs.declared.Guard.{Guard}

@@ -14,9 +14,9 @@ ghost use Rattle.calculus.specs.Lists.{any, Each};
 ghost use Rattle.calculus.specs.Terms.{term};
 ghost use Rattle.calculus.specs.Branch.{rootAt};
 ghost use Rattle.calculus.specs.Invariants.{Falls};
+ghost use Rattle.calculus.specs.Relations.{by};
 ghost use Rattle.constraints.specs.Decoded.{decoded, Handled};
 ghost use Rattle.places.specs.Places.{RuleOf};
-ghost use Rattle.calculus.proofs.Tables.{by};
 ghost use Rattle.branch.specs.Held.{rootOf};
 ghost use Rattle.guards.specs.Guarded.{Spanned, quiet, Reaching, branchOf, meets, rootMeets, FirstOf, passes, Standing, Guards, below, only, unless, both, decided, listGuard, numbered, rowGuard};
 

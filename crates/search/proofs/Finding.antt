@@ -14,8 +14,8 @@ use Rattle.calculus.specs.Relations.{equal, union, disjoint, subset, intersecti
 use Rattle.calculus.specs.Meaning as calculus
 use Rattle.calculus.specs.Branch.{Branch}
 use Rattle.calculus.specs.Reading.{read}
+use Rattle.calculus.specs.Invariants.{ConstraintIn}
 use Rattle.calculus.proofs.Bools.{map-Each}
-use Rattle.calculus.proofs.RuleLaws.{ConstraintIn}
 use Rattle.problem.specs.declared.Table.{Table}
 use Rattle.problem.specs.Table.{Opened, Stands, constraintsOf, constraintOf, kindOf, noConstraint}
 use Rattle.places.specs.Places.{propagationSpan, splitSpan, spanOf, InSpan, RuleOf, entriesOf, moveAt, firstAt}

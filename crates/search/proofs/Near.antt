@@ -14,10 +14,9 @@ use Rattle.calculus.specs.Terms.{Term, term}
 use Rattle.calculus.specs.Relations.{applies}
 use Rattle.calculus.specs.Meaning.{Constraint}
 use Rattle.calculus.specs.Branch.{Branch, known}
-use Rattle.calculus.specs.Invariants.{Falls}
+use Rattle.calculus.specs.Invariants.{Falls, ConstraintIn}
 use Rattle.calculus.specs.Search.{Move}
 use Rattle.calculus.proofs.Bools.{and-r, and-i, same-test, first-some}
-use Rattle.calculus.proofs.RuleLaws.{ConstraintIn}
 use Rattle.problem.specs.Table.{noConstraint}
 use Rattle.places.specs.Places.{propagationSpan, InSpan, moveAt, firstAt, offers}
 use Rattle.places.proofs.Offered.{position-of}
