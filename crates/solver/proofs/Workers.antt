@@ -69,7 +69,7 @@ module _ (bs : List ℕ) (tab : Table) (o : Opened bs tab) (b : Branch) (good : 
 
   -- and the other way round
   pub split-finds : Splits bs tab b p → Finds true (tab .terms) (constraints bs tab) (held b) p
-  split-finds w = record { first-is = w .first-is; within = λ _. w .within }
+  split-finds w = record { first-is = w .first-is; within = λ _. w .within; none = λ z. absurd (w .some-rule z) }
 
   module _ (w : Splits bs tab b p) where
     pub split-step : next (tab .terms) (constants bs tab) (constraints bs tab) (shown bs tab b) ≡ step (splitRecord bs tab b p) (kept bs tab b (placed bs tab p) (p .rule) (p .position) 0)
