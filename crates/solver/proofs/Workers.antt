@@ -88,7 +88,7 @@ module _ (bs : List ℕ) (tab : Table) (o : Opened bs tab) (b : Branch) (good : 
 
 -- ---- a branch that propagation has settled
 
-module _ (bs : List ℕ) (tab : Table) (o : Opened bs tab) (budget : ℕ) (b : Branch) (c : Counts) (F T : List ℕ) (r : Inferred) (U : List ℕ) (set : Settles bs tab budget b c T r U) (z : r .found ≡ 0)
+module _ (bs : List ℕ) (tab : Table) (o : Opened bs tab) (budget : ℕ) (b : Branch) (c : Counts) (F T : List ℕ) (r : Inferred) (U : List ℕ) (set : Settles bs tab budget b c T r U) (z : r .settled ≡ true)
     (p : Place) (f : Finds true (tab .terms) (constraints bs tab) (held (r .branch)) p) where
   abbrev at : Branch
   at = r .branch
