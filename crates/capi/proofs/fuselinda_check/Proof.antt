@@ -56,11 +56,11 @@ add-result c = search needs
 
 -- src/lib.rt:80:9
 returns-3 : tie.Need-returns-3
-returns-3 c = check-fails _ _ _ (table-opened _ _ (c .before .before .before .before .before .before .before .read .ensures) (c .before .before .before .before .before .before .if1 .left)) _ (c .before .before .before .before .before .lay-out .ensures) (not-f _ (c .before .before .before .if2 .left)) _ (c .before .before .lowest .ensures) (c .if3 .taken) _ refl
+returns-3 c = check-fails _ _ _ (table-opened _ _ (c .before .before .before .before .before .before .before .read .ensures) (c .before .before .before .before .before .before .if1 .left)) _ (c .before .before .before .before .before .lay-out .ensures) (not-f _ (c .before .before .before .if2 .left)) _ (c .before .before .lowest .ensures .0) (c .if3 .taken) _ refl
 
 -- src/lib.rt:65:1
 returns-4 : tie.Need-returns-4
-returns-4 c = check-holds _ _ _ (table-opened _ _ (c .before .before .before .before .before .before .before .read .ensures) (c .before .before .before .before .before .before .if1 .left)) _ (c .before .before .before .before .before .lay-out .ensures) (not-f _ (c .before .before .before .if2 .left)) _ (c .before .before .lowest .ensures) (omega (arith, c .if3 .left))
+returns-4 c = check-holds _ _ _ (table-opened _ _ (c .before .before .before .before .before .before .before .read .ensures) (c .before .before .before .before .before .before .if1 .left)) _ (c .before .before .before .before .before .lay-out .ensures) (not-f _ (c .before .before .before .if2 .left)) _ (c .before .before .lowest .ensures .0) (omega (arith, c .if3 .left))
 
 pub fuselinda-check-spec : {M : Type 1} → statement M
 fuselinda-check-spec =
