@@ -17,10 +17,11 @@ use Rattle.calculus.specs.Lists.{all, any, upFrom, Each}
 use Rattle.calculus.specs.Relations.{Relation, holdsAt, Negation, unequal, denies}
 use Rattle.calculus.specs.Meaning.{Constraint, member, nonmember, same, different, relation, negation, exactly, interval, entries, _∈_, Valuation, Relates, Holds}
 use Rattle.calculus.specs.Problem.{setCount, Problem, nameable, termCount, Assignment, valueOf, values, Satisfies, constantTerms, Rising, Refers, uses, Tied, Numbered, Valid}
+use Rattle.calculus.specs.Invariants.{ConstraintIn}
 use Rattle.calculus.proofs.Bools.{and-l, and-r, and-i, or-cases, clash, test, each-all, all-each, Each-imp, Each-zip}
 use Rattle.calculus.proofs.Tables.{relation-none}
 use Rattle.calculus.proofs.Truth.{has, has-in, in-has, relates-test, test-relates, Is, Distinct}
-use Rattle.calculus.proofs.RuleLaws.{ConstraintIn, Lists, Good}
+use Rattle.calculus.proofs.RuleLaws.{Lists, Good}
 use Rattle.calculus.proofs.Sequences.{terms-each, terms-at, place-of, from-image, image-of}
 use Rattle.calculus.proofs.Integers.{rising-le, le-rising, rising-inj}
 

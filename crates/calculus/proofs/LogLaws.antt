@@ -16,13 +16,14 @@ use Rattle.calculus.specs.Relations.{Rule, Literal, Operand, propagation
 use Rattle.calculus.specs.Branch.{Branch, start, rootAt, inside, outside, Fact, In, Out, Same, known}
 use Rattle.calculus.specs.Search.{Move, operandOf, over, propagations, splits, places, rootsOf, candidates, Candidate, Next, solved, step, next}
 use Rattle.calculus.specs.Log.{Event, formed, stepped, log}
+use Rattle.calculus.specs.Invariants.{ConstraintIn}
 use Rattle.calculus.proofs.BranchForms.{formsOf}
 use Rattle.calculus.proofs.Bools.{clash, Each-app, Each-imp, Each-zip}
 use Rattle.calculus.proofs.Masks.{bit-zero}
 use Rattle.calculus.proofs.Truth.{truth, Sat, Distinct, eq-eqZ}
 use Rattle.calculus.proofs.Asserting.{WellFormed, below}
 use Rattle.calculus.proofs.Measure.{measure, weight, undecided, sumBelow, sum-le, sum-const}
-use Rattle.calculus.proofs.RuleLaws.{ConstraintIn, Good}
+use Rattle.calculus.proofs.RuleLaws.{Good}
 use Rattle.calculus.proofs.Stepping.{step-fit, step-sat, solved-full}
 
 -- ---- forms in a log

@@ -4,7 +4,7 @@ use mathlib.Core.Logic.{_⊎_, inl, inr, _↔_, _≢_}
 use mathlib.Core.Bool.{Bool, true, false, _&&_, _||_, not, cond, true≢false, false≢true}
 use mathlib.Core.Option.{Option, none, some}
 use mathlib.Core.List.{List, [], _∷_, _++_, map}
-use Prim.Native.Nat.{ℕ, zero, suc, _+_, _<_, _≤_}
+use Prim.Native.Nat.{ℕ, zero, suc, _+_, _≤_}
 use native.Mathlib.Omega.{arith}
 use lib.Dec.{eqb}
 use lib.IntN.{ℤ}
@@ -12,13 +12,13 @@ use borrow.Author.Tests.{eqb-true, eqb-false, eq-eqb, ne-eqb}
 use Rattle.calculus.specs.Terms.{Term, SetVar, term}
 use Rattle.calculus.proofs.AtNumber.{term-eqb}
 use Rattle.calculus.specs.Lists.{imp, all, any, keep, upFrom, Each, Some, here, there, gather, picked}
-use Rattle.calculus.specs.Relations.{Rule, applies, propagation, choice, sound, adds, mapRule, Relation, holdsAt, Operand, Literal, propagationRows, splitRows, negationRow, Negation, unequal, denies}
+use Rattle.calculus.specs.Relations.{Rule, applies, propagation, choice, sound, adds, mapRule, Relation, holdsAt, Operand, Literal, propagationRows, splitRows, negationRow, Negation, unequal, denies, litKnown, rows}
 use Rattle.calculus.specs.Relations as R
 use Rattle.calculus.specs.Meaning.{Constraint, member, nonmember, same, different, relation, negation, exactly, interval, entries, _∈_, Valuation, Holds, Relates}
 use Rattle.calculus.specs.Branch.{Branch, rootAt, root, inside, outside, Fact, In, Out, Same, known}
 use Rattle.calculus.specs.Search.{Move, operandOf, factOf, at, over, distinct, listing, choose, choosing, propagations, splits, rootsOf}
 use Rattle.calculus.proofs.Bools.{and-l, and-r, and-i, or-cases, or-l, or-r, or-none-l, imp-at, imp-i, clash, test, not-t, not-f, each-all, all-each, all-map, any-map, Each-app, Each-left, Each-right, Each-all, Each-imp, Each-map, Each-gather}
-use Rattle.calculus.proofs.Tables.{litTrue, litKnown, rows, rows-sound, negation-sound, rows-add}
+use Rattle.calculus.proofs.Tables.{litTrue, rows-sound, negation-sound, rows-add}
 use Rattle.calculus.proofs.Truth.{eqZ, eqZ-eq, eq-eqZ, has, has-in, in-has, relates-test, truth, Sat}
 use Rattle.calculus.proofs.Asserting.{WellFormed, still, Ranged, same-num}
 
@@ -46,17 +46,7 @@ truth-fact v h s = fun-ext (λ l. elim l [ R.In p ↦ refl | R.Out p ↦ refl ])
 pub known-fact : (b : Branch) (h : Term) (s : Operand → SetVar) → (λ (l : Literal). known b (factOf h s l)) ≡ litKnown (λ p. known b (In h (s p))) (λ p. known b (Out h (s p)))
 known-fact b h s = fun-ext (λ l. elim l [ R.In p ↦ refl | R.Out p ↦ refl ])
 
--- ---- constraints in range, and constraints with their witnesses
-
-abbrev pub ConstraintIn : ℕ → ℕ → Constraint → Type 0
-ConstraintIn n m (member t A) = (t .index < n) × (A .index < m)
-ConstraintIn n m (nonmember t A) = (t .index < n) × (A .index < m)
-ConstraintIn n m (same t u) = (t .index < n) × (u .index < n)
-ConstraintIn n m (different t u) = (t .index < n) × (u .index < n)
-ConstraintIn n m (relation k A B C) = (A .index < m) × (B .index < m) × (C .index < m)
-ConstraintIn n m (negation k A B C w) = ((A .index < m) × (B .index < m) × (C .index < m)) × (w .index < n)
-ConstraintIn n m (exactly A es) = (A .index < m) × Each (λ e. e .index < n) es
-ConstraintIn n m (interval A i j) = (A .index < m) × Each (λ e. e .index < n) (entries i j)
+-- ---- constraints with their witnesses
 
 abbrev pub Lists : Valuation → SetVar → List Term → Type 0
 Lists v A es = (x : ℤ) → x ∈ v .members A ↔ x ∈ map (v .num) es

@@ -21,12 +21,13 @@ use Rattle.calculus.specs.Relations.{applies}
 use Rattle.calculus.specs.Search.{Move, propagations, splits, rootsOf, next, solved}
 use Rattle.calculus.specs.Problem.{Problem, constantCount, nameable, termCount, setCount, constantTerms, Assignment, valueOf, values, Satisfies, Valid}
 use Rattle.calculus.specs.Forms.{valueBy, classValue}
+use Rattle.calculus.specs.Invariants.{ConstraintIn}
 use Rattle.calculus.proofs.BranchForms.{AgreesBranch, SatisfiesBranch, branchNumber, branchModel, problemForms}
 use Rattle.calculus.proofs.Bools.{Each-imp, Each-zip, first-some, first-none, clash, or-l, or-r}
 use Rattle.calculus.proofs.Truth.{Sat, Is}
 use Rattle.calculus.proofs.Asserting.{WellFormed}
 use Rattle.calculus.proofs.Measure.{measure}
-use Rattle.calculus.proofs.RuleLaws.{ConstraintIn, Good}
+use Rattle.calculus.proofs.RuleLaws.{Good}
 use Rattle.calculus.proofs.Stepping.{IsRoot, solved-full}
 use Rattle.calculus.proofs.Sequences.{terms-each, terms-at}
 use Rattle.calculus.proofs.Integers.{rising-inj}

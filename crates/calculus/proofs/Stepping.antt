@@ -16,12 +16,13 @@ use Rattle.calculus.specs.Relations.{Rule, applies, sound, adds, Negatio
 use Rattle.calculus.specs.Meaning.{Constraint, Valuation}
 use Rattle.calculus.specs.Branch.{Branch, rootAt, root, Fact, known, assert, assertAll}
 use Rattle.calculus.specs.Search.{Move, propagations, splits, rootsOf, Candidate, candidates, places, Next, solved, step, children, taken, next}
+use Rattle.calculus.specs.Invariants.{ConstraintIn}
 use Rattle.calculus.proofs.Bools.{and-l, and-r, and-i, imp-at, clash, not-t, each-all, all-each, Each-app, Each-left, Each-right, Each-imp, Each-zip, Each-map, map-Each, first-none, first-some}
 use Rattle.calculus.proofs.Truth.{truth, Sat, Distinct}
 use Rattle.calculus.proofs.Asserting.{WellFormed, Ranged}
 use Rattle.calculus.proofs.Measure.{measure}
 use Rattle.calculus.proofs.Children.{children-sat, children-fit}
-use Rattle.calculus.proofs.RuleLaws.{ConstraintIn, Good, propagations-sound, splits-sound}
+use Rattle.calculus.proofs.RuleLaws.{Good, propagations-sound, splits-sound}
 use Rattle.calculus.proofs.AddingFacts.{Each-keep, Tame, propagations-tame, splits-tame}
 use Rattle.calculus.proofs.Sequences.{terms-each, terms-at, keep-each, keep-at}
 

@@ -1,32 +1,20 @@
 -- The rules' truth tables, computed, and what they say.
 use mathlib.Core.Path.{_≡_, refl, sym, _∙_, ap, subst, fun-ext}
 use mathlib.Core.Bool.{Bool, true, false, _&&_, _||_, not, cond}
-use mathlib.Core.List.{List, [], _∷_, _++_, map}
+use mathlib.Core.List.{List, [], _∷_, map}
 use Prim.Native.Nat.{ℕ, zero, suc, _+_}
 use Rattle.calculus.specs.Lists.{imp, all, any, Each}
-use Rattle.calculus.specs.Relations.{Rule, applies, sound, adds, mapRule, Relation, equal, union, disjoint, subset, intersection, holdsAt, Operand, A, B, C, Literal, In, Out, propagationRows, splitRows, negationRow, Negation, unequal, denies}
+use Rattle.calculus.specs.Relations.{Rule, applies, sound, adds, mapRule, Relation, equal, union, disjoint, subset, intersection, holdsAt, Operand, A, B, C, Literal, In, Out, negationRow, Negation, unequal, denies, by, litKnown, rows}
 use Rattle.calculus.proofs.Bools.{and-l, and-r, and-i, imp-at, every, every3, every3-at, not-t, not-f}
 
 module _ {X : Type 0} where
-  abbrev pub by : X → X → X → Operand → X
-  by x y z A = x
-  by x y z B = y
-  by x y z C = z
-
   by-all : (e : Operand → X) → by (e A) (e B) (e C) ≡ e
   by-all e = fun-ext (λ p. elim p [ A ↦ refl | B ↦ refl | C ↦ refl ])
 
--- a literal's truth of an element, and whether it is known of a class
+-- a literal's truth of an element
 abbrev pub litTrue : (Operand → Bool) → Literal → Bool
 litTrue e (In p) = e p
 litTrue e (Out p) = not (e p)
-
-abbrev pub litKnown : (Operand → Bool) → (Operand → Bool) → Literal → Bool
-litKnown i o (In p) = i p
-litKnown i o (Out p) = o p
-
-abbrev pub rows : Relation → List (Rule Literal)
-rows k = propagationRows k ++ splitRows k
 
 -- 1. what a constraint of the kind makes true
 sound-test : (k : Relation) → every3 (λ a b c. imp (holdsAt k a b c) (all (sound (litTrue (by a b c))) (rows k))) ≡ true

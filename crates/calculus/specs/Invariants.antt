@@ -2,11 +2,12 @@
 use mathlib.Core.Path.{_≡_, refl}
 use mathlib.Core.Bool.{Bool, true, false, _&&_, _||_, cond}
 use mathlib.Core.List.{List, [], _∷_}
-use Prim.Native.Nat.{ℕ, zero, suc, _+_, _≤_}
+use Prim.Native.Nat.{ℕ, zero, suc, _+_, _≤_, _<_}
 use lib.ListN.{length, getD}
 use lib.Dec.{eqb}
-use Rattle.calculus.specs.Lists.{any}
+use Rattle.calculus.specs.Lists.{any, Each}
 use Rattle.calculus.specs.Terms.{Term, SetVar, term, setVar}
+use Rattle.calculus.specs.Meaning.{Constraint, member, nonmember, same, different, relation, negation, exactly, interval, entries}
 use Rattle.calculus.specs.Branch.{Branch, rootAt, inside, outside}
 
 -- no term's parent is higher than itself
@@ -25,6 +26,17 @@ pub record WellFormed (n : ℕ) (constants : List Term) (b : Branch) : Type 0 wh
   pub falls : Falls (b .parents)
   pub lone : (i j : ℕ) → Is constants i → Is constants j → rootAt b i ≡ rootAt b j → i ≡ j
   pub clean : (h : ℕ) (A : SetVar) → (inside b (term h) A && outside b (term h) A) ≡ false
+
+-- the terms of a constraint, its witness and entries too, are below n, and its sets below m
+abbrev pub ConstraintIn : ℕ → ℕ → Constraint → Type 0
+ConstraintIn n m (member t A) = (t .index < n) × (A .index < m)
+ConstraintIn n m (nonmember t A) = (t .index < n) × (A .index < m)
+ConstraintIn n m (same t u) = (t .index < n) × (u .index < n)
+ConstraintIn n m (different t u) = (t .index < n) × (u .index < n)
+ConstraintIn n m (relation k A B C) = (A .index < m) × (B .index < m) × (C .index < m)
+ConstraintIn n m (negation k A B C w) = ((A .index < m) × (B .index < m) × (C .index < m)) × (w .index < n)
+ConstraintIn n m (exactly A es) = (A .index < m) × Each (λ e. e .index < n) es
+ConstraintIn n m (interval A i j) = (A .index < m) × Each (λ e. e .index < n) (entries i j)
 
 abbrev pub sumBelow : ℕ → (ℕ → ℕ) → ℕ
 sumBelow zero f = 0

@@ -54,6 +54,18 @@ pub data Operand : Type 0 where
 pub data Literal : Type 0 where
   In Out : Operand → Literal
 
+-- a value for each operand
+module _ {X : Type 0} where
+  abbrev pub by : X → X → X → Operand → X
+  by x y z A = x
+  by x y z B = y
+  by x y z C = z
+
+-- whether a literal is known of a class that is known in and out of operands
+abbrev pub litKnown : (inside outside : Operand → Bool) → Literal → Bool
+litKnown i o (In p) = i p
+litKnown i o (Out p) = o p
+
 -- rules 5, 6, 8 to 11 and 13 to 18
 abbrev pub propagationRows : Relation → List (Rule Literal)
 propagationRows equal = propagation 5 (In A ∷ []) (In B) ∷ propagation 6 (In B ∷ []) (In A) ∷ []
@@ -76,6 +88,10 @@ splitRows union = record {
 splitRows disjoint = []
 splitRows subset = []
 splitRows intersection = []
+
+-- the propagation rows of a relation, then its split's
+abbrev pub rows : Relation → List (Rule Literal)
+rows k = propagationRows k ++ splitRows k
 
 -- The relations that a constraint can deny: kind 6
 pub data Negation : Type 0 where

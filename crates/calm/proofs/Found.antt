@@ -13,10 +13,9 @@ use Rattle.calculus.specs.Relations.{Rule, applies, propagation, Operand, Liter
 use Rattle.calculus.specs.Meaning.{Constraint, member, nonmember, same, different, relation, negation, exactly, interval, entries}
 use Rattle.calculus.specs.Branch.{Branch, rootAt, root, In, known}
 use Rattle.calculus.specs.Search.{Move, operandOf, at, over, choose, rootsOf, Candidate, candidates}
-use Rattle.calculus.specs.Invariants.{Falls}
+use Rattle.calculus.specs.Invariants.{Falls, ConstraintIn}
 use Rattle.calculus.proofs.Bools.{first-some, Each-app, Each-all, Each-imp, Each-map, Each-gather}
 use Rattle.calculus.proofs.Sequences.{keep-each, terms-each}
-use Rattle.calculus.proofs.RuleLaws.{ConstraintIn}
 use Rattle.calculus.proofs.Walk.{walk-le}
 use Rattle.problem.specs.Table.{noConstraint}
 use Rattle.places.specs.Places.{offers}

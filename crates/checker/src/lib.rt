@@ -10,7 +10,7 @@ use problem::Table;
 use terms::Term;
 ghost use mathlib.Core.Path.{_≡_};
 ghost use mathlib.Core.List.{map};
-ghost use Prim.Native.Nat.{_+_, _<_};
+ghost use Prim.Native.Nat.{_+_, _≤_, _<_};
 ghost use lib.ListN.{length};
 ghost use Rattle.calculus.specs.Lists.{upFrom, all, Each};
 ghost use Rattle.calculus.specs.Relations.{holdsAt};
@@ -192,7 +192,7 @@ fn holds<'a>(
 // The lowest constraint that is false of the assignment; the number of constraints if none is.
 pub fn lowest(problem: &[u8], tab: Table, assignment: &[u8], at: Layout) -> u8
     requires { ⌜ Opened (now problem) tab × Fitting tab (now assignment) at ⌝ }
-    ensures { λ r. ⌜ lowest (seen (now (problem .entry)) tab (now (assignment .entry)) at) 0 (constraintsOf (read (now (problem .entry)))) ≡ failing (tab .constraints) r ⌝ }
+    ensures { λ r. ⌜ (lowest (seen (now (problem .entry)) tab (now (assignment .entry)) at) 0 (constraintsOf (read (now (problem .entry)))) ≡ failing (tab .constraints) r) × (r ≤ tab .constraints) ⌝ }
 {
     let b = Branch::start();
     let numbers = b.parents;

@@ -6,7 +6,7 @@ use lib.ListN.{length}
 use Rattle.calculus.specs.Terms.{Term, term, setVar}
 use Rattle.calculus.specs.Relations as relations
 use Rattle.calculus.specs.Meaning as calculus
-use Rattle.calculus.proofs.RuleLaws.{ConstraintIn}
+use Rattle.calculus.specs.Invariants.{ConstraintIn}
 use Rattle.problem.specs.Table.{constraintOf}
 use Rattle.places.specs.Places.{entriesOf}
 use Rattle.constraints.specs.declared.Relation.{Relation}

@@ -11,16 +11,14 @@ use lib.Dec.{eqb}
 use borrow.Author.Tests.{eqb-true, eq-eqb, ne-eqb}
 use Rattle.calculus.specs.Lists.{upFrom, all, any, keep, first, bit}
 use Rattle.calculus.specs.Terms.{Term, SetVar, term, setVar}
-use Rattle.calculus.specs.Relations.{Relation, applies, unequal, propagation}
+use Rattle.calculus.specs.Relations.{Relation, applies, unequal, propagation, by}
 use Rattle.calculus.specs.Meaning.{Constraint, member, nonmember, same, different, relation, negation, exactly, interval}
 use Rattle.calculus.specs.Branch.{Branch, rootAt, root, inside, outside, In, Out, Same, known}
-use Rattle.calculus.specs.Invariants.{Falls}
+use Rattle.calculus.specs.Invariants.{Falls, ConstraintIn}
 use Rattle.calculus.specs.Search.{Move, choose, at}
 use Rattle.calculus.proofs.Bools.{same-test, any-map}
 use Rattle.calculus.proofs.SearchLaws.{first-next}
 use Rattle.calculus.proofs.Walk.{walk-root, root-walk}
-use Rattle.calculus.proofs.Tables.{by}
-use Rattle.calculus.proofs.RuleLaws.{ConstraintIn}
 use Rattle.branch.specs.Held.{rootOf}
 use Rattle.branch.proofs.Roots.{root-is, root-range}
 use Rattle.branch.proofs.Masks.{one-shl}

@@ -12,7 +12,7 @@ use lib.Bits.{bitAnd, bitOr, and-step, and-zero-r}
 use borrow.Author.Tests.{eqb-true, eqb-false, eq-eqb}
 use Rattle.calculus.specs.Lists.{imp, all, bit, Each, upFrom}
 use Rattle.calculus.specs.Terms.{SetVar, term}
-use Rattle.calculus.specs.Relations.{Rule, applies, Relation, equal, union, disjoint, subset, intersection, Operand, Literal}
+use Rattle.calculus.specs.Relations.{Rule, applies, Relation, equal, union, disjoint, subset, intersection, Operand, Literal, by, litKnown, rows}
 use Rattle.calculus.specs.Relations as R
 use Rattle.calculus.specs.Meaning.{relation}
 use Rattle.calculus.specs.Branch.{Branch, rootAt, inside, outside, known}
@@ -20,7 +20,6 @@ use Rattle.calculus.specs.Search.{operandOf, factOf, at}
 use Rattle.calculus.proofs.Bools.{clash, test, and-l, and-r, and-i, or-l, or-r, or-cases, imp-at, same-test, every3, every3-at}
 use Rattle.calculus.proofs.Masks.{bit-or, bit-and, bit-zero, bit-pow}
 use Rattle.calculus.proofs.Sequences.{up-at}
-use Rattle.calculus.proofs.Tables.{by, litKnown, rows}
 use Rattle.calculus.proofs.RuleLaws.{applies-map}
 use Rattle.places.specs.Places.{RuleOf, firstRow, rowOf}
 use Rattle.guards.specs.Guarded.{meets, inOf, outOf, maskOf, blocking, rowGuard, numbered}

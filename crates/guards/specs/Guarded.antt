@@ -8,19 +8,23 @@ use lib.Dec.{eqb}
 use lib.Bits.{bitAnd, bitOr}
 use Rattle.calculus.specs.Lists.{upFrom, any, gather, first}
 use Rattle.calculus.specs.Terms.{Term, term, setVar}
-use Rattle.calculus.specs.Relations.{Rule, propagation, equal, union, disjoint, subset, intersection, unequal, Operand, Literal, negationRow}
+use Rattle.calculus.specs.Relations.{Rule, propagation, equal, union, disjoint, subset, intersection, unequal, Operand, Literal, negationRow, rows}
 use Rattle.calculus.specs.Relations as R
 use Rattle.calculus.specs.Meaning.{Constraint}
 use Rattle.calculus.specs.Branch.{Branch, rootAt, In, Out, Same, known}
 use Rattle.calculus.specs.Invariants.{Falls}
-use Rattle.calculus.proofs.Tables.{rows}
-use Rattle.problem.specs.Table.{kindOf}
-use Rattle.places.specs.Places.{spanOf, entriesOf, firstAt}
+use Rattle.places.specs.Places.{entriesOf, firstAt}
 use Rattle.guards.specs.declared.Guard.{Guard}
 
--- the rules from first up to end are the propagation rules, or the split, of each constraint of a kind
-abbrev pub Spanned : Bool → (kind first end : ℕ) → Type 0
-Spanned split kind first end = (l : Constraint) → kindOf l ≡ kind → (first ≡ spanOf split l .0) × (end ≡ spanOf split l .1)
+-- the kinds that have propagation rules, or a split: with each the first of its rules, and the one after the last
+abbrev pub spans : Bool → List (ℕ × ℕ × ℕ)
+spans false = (1, 1, 2) ∷ (2, 2, 3) ∷ (3, 3, 4) ∷ (4, 4, 5) ∷ (5, 5, 7) ∷ (7, 8, 12) ∷ (8, 13, 15) ∷ (9, 15, 16) ∷ (10, 16, 19) ∷ (11, 19, 20) ∷ (12, 19, 20) ∷ []
+spans true = (6, 7, 8) ∷ (7, 12, 13) ∷ (11, 20, 21) ∷ (12, 20, 21) ∷ []
+
+-- the rules of a kind that such a list gives; a kind that is not on it has none
+abbrev pub spanIn : List (ℕ × ℕ × ℕ) → ℕ → ℕ × ℕ
+spanIn [] kind = (0, 0)
+spanIn (s ∷ ss) kind = cond (eqb kind (s .0)) (s .1, s .2) (spanIn ss kind)
 
 -- a branch from its three lists
 abbrev pub branchOf : List ℕ → List ℕ → List ℕ → Branch

@@ -14,11 +14,11 @@ ghost use Rattle.calculus.specs.Lists.{any, Each};
 ghost use Rattle.calculus.specs.Terms.{term};
 ghost use Rattle.calculus.specs.Branch.{rootAt};
 ghost use Rattle.calculus.specs.Invariants.{Falls};
+ghost use Rattle.calculus.specs.Relations.{by};
 ghost use Rattle.constraints.specs.Decoded.{decoded, Handled};
 ghost use Rattle.places.specs.Places.{RuleOf};
-ghost use Rattle.calculus.proofs.Tables.{by};
 ghost use Rattle.branch.specs.Held.{rootOf};
-ghost use Rattle.guards.specs.Guarded.{Spanned, quiet, Reaching, branchOf, meets, rootMeets, FirstOf, passes, Standing, Guards, below, only, unless, both, decided, listGuard, numbered, rowGuard};
+ghost use Rattle.guards.specs.Guarded.{spans, spanIn, quiet, Reaching, branchOf, meets, rootMeets, FirstOf, passes, Standing, Guards, below, only, unless, both, decided, listGuard, numbered, rowGuard};
 
 // Rules by number, from the first up to the end.
 pub struct Span {
@@ -36,9 +36,9 @@ pub struct Guard {
     pub notout: u8,
 }
 
-// The propagation rules of a constraint of a kind, or its split.
+// The propagation rules of a constraint of a kind, or its split; 0 and 0 where it has none.
 pub fn rules(kind: u8, split: bool) -> Span
-    ensures { λ r. ⌜ Spanned split kind (r .first) (r .end) ⌝ }
+    ensures { λ r. ⌜ (r .first ≡ spanIn (spans split) kind .0) × (r .end ≡ spanIn (spans split) kind .1) ⌝ }
 {
     if split {
         return match kind {
@@ -61,7 +61,6 @@ pub fn rules(kind: u8, split: bool) -> Span
         10 => Span { first: 16, end: 19 },
         11 => Span { first: 19, end: 20 },
         12 => Span { first: 19, end: 20 },
-        // kind 6
         _ => Span { first: 0, end: 0 },
     }
 }

@@ -1,23 +1,24 @@
 -- The laws of laying out an assignment set by set: reading the whole is reading what is left.
 use mathlib.Core.Path.{_≡_, refl, sym, ap, _∙_}
 use mathlib.Core.Bool.{Bool, true, false, false≢true}
-use mathlib.Core.List.{List, [], _∷_, _++_, append-assoc, append-nil}
+use mathlib.Core.List.{List, [], _∷_, _++_, map, append-assoc, append-nil, map-append}
 use Prim.Native.Nat.{ℕ, suc, _+_, _*_, _-_, _<_, _≤_}
 use native.Mathlib.Omega.{arith}
 use native.Mathlib.Numerals.{add-one}
 use native.Mathlib.Decide.{ℕ-discrete}
-use lib.ListN.{length, getD, set, take, drop, drop-of-length-le, length-drop, length-append, length-set, List·getD-append}
-use lib.Seq.{drop-cons, drop-drop, getD-set-same, getD-set-other, getD-append-add}
+use lib.ListN.{length, getD, set, take, drop, replicate, drop-of-length-le, length-drop, length-append, length-map, length-set, List·getD-append}
+use lib.Seq.{drop-cons, drop-drop, length-take-le, set-at, getD-set-same, getD-set-other, getD-append-add}
 use lib.Dec.{eqb}
 use lib.IntN.{ℤ, pos}
 use borrow.Author.Tests.{le-leb, lt-leb, eq-eqb, ne-eqb}
 use Rattle.calculus.specs.Reading.{Parsed, parsed, refused, _>>=_, ask, signed, words, ascending}
 use Rattle.calculus.specs.Encoding.{Handed}
 use Rattle.calculus.specs.Check.{count, numbers, memberLists}
+use Rattle.calculus.proofs.Words.{words-length}
 use Rattle.questions.specs.Questions.{constantsOf}
 use Rattle.questions.proofs.Constants.{constant-at}
 use Rattle.handed.specs.declared.Layout.{Layout}
-use Rattle.handed.specs.Laid.{readHanded, wordAt, membersAt, Lays}
+use Rattle.handed.specs.Laid.{readHanded, startsFrom, filled, noLayout, layoutOf, wordAt, membersAt, Lays}
 
 -- ---- a count and numbers at a place
 
@@ -133,10 +134,38 @@ module _ (bs : List ℕ) (n s : ℕ) where
 abbrev Stands : List ℕ → Layout → List (List ℤ) → ℕ → Type 0
 Stands bs r xss A = (getD (r .starts) A 0 + 2 * getD (r .counts) A 0 ≤ length bs) × (getD xss A [] ≡ words (membersAt bs r A))
 
+-- where what follows these sets begins
+abbrev after : ℕ → List (List ℤ) → ℕ
+after at [] = at
+after at (xs ∷ xss) = after (at + 1 + 2 * length xs) xss
+
+after-more : (at : ℕ) (xss : List (List ℤ)) (ys : List ℤ) → after at (xss ++ (ys ∷ [])) ≡ after at xss + 1 + 2 * length ys
+after-more at [] ys = refl
+after-more at (xs ∷ xss) ys = after-more (at + 1 + 2 * length xs) xss ys
+
+starts-more : (at : ℕ) (xss : List (List ℤ)) (ys : List ℤ) → startsFrom at (xss ++ (ys ∷ [])) ≡ startsFrom at xss ++ ((after at xss + 1) ∷ [])
+starts-more at [] ys = refl
+starts-more at (xs ∷ xss) ys = ap (λ (l : List ℕ). (at + 1) ∷ l) (starts-more (at + 1 + 2 * length xs) xss ys)
+
+starts-length : (at : ℕ) (xss : List (List ℤ)) → length (startsFrom at xss) ≡ length xss
+starts-length at [] = refl
+starts-length at (xs ∷ xss) = ap suc (starts-length (at + 1 + 2 * length xs) xss)
+
+-- the next place that is filled
+fill : (xs : List ℕ) (k v : ℕ) → length xs ≡ k → k < 8 → set (filled xs) k v ≡ filled (xs ++ (v ∷ []))
+fill xs k v e l =
+    let z : 8 - length xs ≡ suc (8 - length (xs ++ (v ∷ []))) = omega (arith, length-append xs (v ∷ [])) in
+    ap (λ (m : ℕ). set (xs ++ replicate m 0) k v) z
+    ∙ set-at xs 0 (replicate (8 - length (xs ++ (v ∷ []))) 0) v k e
+    ∙ sym (append-assoc xs (v ∷ []) (replicate (8 - length (xs ++ (v ∷ []))) 0))
+
 -- k of s sets are read, and what is left begins at a place
 pub record SoFar (bs : List ℕ) (n s : ℕ) (r : Layout) (k at : ℕ) : Type 0 where
   pub sets : List (List ℤ)
   pub many : length sets ≡ k
+  pub place : at ≡ after (1 + 2 * n) sets
+  pub starts-are : r .starts ≡ filled (startsFrom (1 + 2 * n) sets)
+  pub counts-are : r .counts ≡ filled (map length sets)
   pub stand : (A : ℕ) → A < k → Stands bs r sets A
   pub left : readHanded n s bs ≡ readOn (s - k) (drop at bs) (values bs n) sets
   pub long : (length (r .starts) ≡ 8) × (length (r .counts) ≡ 8)
@@ -150,12 +179,13 @@ pub part-is : (bs : List ℕ) (from c : ℕ) → take (from + 2 * c - from) (dro
 part-is bs from c = let e : from + 2 * c - from ≡ 2 * c = omega arith in ap (λ (x : ℕ). take x (drop from bs)) e
 
 -- a refused layout
-pub refuses : (bs : List ℕ) (n s : ℕ) (r : Layout) → r .ok ≡ false → readHanded n s bs ≡ refused 14 → Lays bs n s r
-refuses bs n s r e h = record { accepted = λ q. absurd (false≢true (sym e ∙ q)); declined = λ _. h }
+pub refuses : (bs : List ℕ) (n s : ℕ) (r : Layout) → r ≡ noLayout → readHanded n s bs ≡ refused 14 → Lays bs n s r
+unfolding layoutOf
+refuses bs n s r e h = rw e record { determined = rw h refl; accepted = λ q. absurd (false≢true q); declined = λ _. h }
 
 -- before the first set
-pub start : (bs : List ℕ) (n s : ℕ) (r : Layout) → 0 < length bs → getD bs 0 0 ≡ n → 1 + 2 * n ≤ length bs → length (r .starts) ≡ 8 → length (r .counts) ≡ 8 → SoFar bs n s r 0 (1 + 2 * n)
-start bs n s r l e h p q = record { sets = []; many = refl; stand = λ A z. absurd (omega arith); left = values-read bs n s l e h; long = (p, q) }
+pub start : (bs : List ℕ) (n s : ℕ) (r : Layout) → 0 < length bs → getD bs 0 0 ≡ n → 1 + 2 * n ≤ length bs → r .starts ≡ filled [] → r .counts ≡ filled [] → SoFar bs n s r 0 (1 + 2 * n)
+start bs n s r l e h p q = record { sets = []; many = refl; place = refl; starts-are = p; counts-are = q; stand = λ A z. absurd (omega arith); left = values-read bs n s l e h; long = (ap length p, ap length q) }
 
 module _ {bs : List ℕ} {n s : ℕ} {starts counts : List ℕ} {k at : ℕ} (so : SoFar bs n s (layout starts counts) k at) where
   -- a set is left: it is not there, or not whole, or not ascending, or it is read
@@ -182,10 +212,24 @@ module _ {bs : List ℕ} {n s : ℕ} {starts counts : List ℕ} {k at : ℕ} (so
       abbrev here : List ℤ
       here = words (take (2 * size) (drop (at + 1) bs))
 
+      here-length : length here ≡ size
+      here-length = words-length size (take (2 * size) (drop (at + 1) bs)) (length-take-le (2 * size) (drop (at + 1) bs) (omega (arith, length-drop (at + 1) bs)))
+
       pub set-read : s ≤ 8 → t ≡ true → SoFar bs n s next (k + 1) (at + 1 + 2 * size)
       set-read b f = record {
         sets = so .sets ++ (here ∷ []);
         many = omega (arith, length-append (so .sets) (here ∷ []), so .many);
+        place = omega (arith, so .place, after-more (1 + 2 * n) (so .sets) here, here-length);
+        starts-are =
+            ap (λ (x : List ℕ). set x k (at + 1)) (so .starts-are)
+            ∙ fill (startsFrom (1 + 2 * n) (so .sets)) k (at + 1) (starts-length (1 + 2 * n) (so .sets) ∙ so .many) (omega arith)
+            ∙ ap (λ (x : ℕ). filled (startsFrom (1 + 2 * n) (so .sets) ++ ((x + 1) ∷ []))) (so .place)
+            ∙ ap filled (sym (starts-more (1 + 2 * n) (so .sets) here));
+        counts-are =
+            ap (λ (x : List ℕ). set x k size) (so .counts-are)
+            ∙ fill (map length (so .sets)) k size (length-map (so .sets) length ∙ so .many) (omega arith)
+            ∙ ap (λ (x : ℕ). filled (map length (so .sets) ++ (x ∷ []))) (sym here-length)
+            ∙ ap filled (sym (map-append length (so .sets) (here ∷ [])));
         stand = λ A z. stands A z (ℕ-discrete A k);
         left = so .left ∙ go-on bs at s k l (values bs n) (so .sets) h (omega arith) (order ∙ f);
         long = (omega (arith, length-set starts k (at + 1), so .long .0), omega (arith, length-set counts k size, so .long .1));
@@ -205,7 +249,9 @@ module _ {bs : List ℕ} {n s : ℕ} {starts counts : List ℕ} {k at : ℕ} (so
     left-over h = so .left ∙ stop-over bs at s k l (values bs n) (so .sets) h
 
     pub laid-out : k ≤ s → 1 + 2 * n ≤ length bs → length bs ≤ at → Lays bs n s (layout starts counts)
+    unfolding layoutOf
     laid-out m v h = record {
+      determined = rw (so .left ∙ all-read bs at s k l (values bs n) (so .sets) h, so .starts-are, so .counts-are) refl;
       accepted = λ _. (
         record { numbers = values bs n; sets = so .sets },
         so .left ∙ all-read bs at s k l (values bs n) (so .sets) h,

@@ -1,9 +1,9 @@
 -- Where the parts of an assignment stand that was handed in.
 use mathlib.Core.Path.{_≡_}
 use mathlib.Core.Bool.{true, false}
-use mathlib.Core.List.{List, []}
-use Prim.Native.Nat.{ℕ, _+_, _*_, _<_, _≤_}
-use lib.ListN.{length, getD, take, drop}
+use mathlib.Core.List.{List, [], _∷_, _++_, map}
+use Prim.Native.Nat.{ℕ, _+_, _*_, _-_, _<_, _≤_}
+use lib.ListN.{length, getD, take, drop, replicate}
 use lib.Dec.{eqb}
 use lib.IntN.{ℤ, pos}
 use Rattle.calculus.specs.Reading.{Parsed, parsed, refused, _>>=_, ask, signed, words}
@@ -21,6 +21,24 @@ readHanded n s bs = do
   _ ← ask 14 (eqb (length r₃) 0)
   parsed (record { numbers = xs; sets = xss })
 
+-- where the members of each set begin, the first set's count byte at a place
+abbrev pub startsFrom : ℕ → List (List ℤ) → List ℕ
+startsFrom at [] = []
+startsFrom at (xs ∷ xss) = (at + 1) ∷ startsFrom (at + 1 + 2 * length xs) xss
+
+-- a list of 8, filled up with 0
+abbrev pub filled : List ℕ → List ℕ
+filled xs = xs ++ replicate (8 - length xs) 0
+
+-- the layout of what is refused: 0 in all
+abbrev pub noLayout : Layout
+noLayout = record { ok = false; starts = replicate 8 0; counts = replicate 8 0 }
+
+-- the layout of an assignment to n variables
+unfoldable pub layoutOf : ℕ → Parsed Handed → Layout
+layoutOf n (parsed g) = record { ok = true; starts = filled (startsFrom (1 + 2 * n) (g .sets)); counts = filled (map length (g .sets)) }
+layoutOf n (refused _) = noLayout
+
 -- the number at two bytes
 abbrev pub wordAt : List ℕ → ℕ → ℤ
 wordAt bs i = signed (getD bs i 0 + 256 * getD bs (i + 1) 0)
@@ -36,5 +54,6 @@ pub record Laid (bs : List ℕ) (n s : ℕ) (g : Handed) (r : Layout) : Type 0 w
 
 -- the bytes are an assignment, with this layout, or they are not
 pub record Lays (bs : List ℕ) (n s : ℕ) (r : Layout) : Type 0 where
+  pub determined : r ≡ layoutOf n (readHanded n s bs)
   pub accepted : r .ok ≡ true → (g : Handed) × (readHanded n s bs ≡ parsed g) × Laid bs n s g r
   pub declined : r .ok ≡ false → readHanded n s bs ≡ refused 14

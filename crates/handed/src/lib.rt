@@ -2,14 +2,13 @@
 use questions::raised;
 use terms::SetVar;
 ghost use mathlib.Core.Path.{_≡_};
-ghost use mathlib.Core.Bool.{false};
 ghost use Prim.Native.Nat.{_+_, _*_, _≤_, _<_};
 ghost use lib.ListN.{length, getD};
 ghost use Rattle.calculus.specs.Reading.{words, ascending};
 ghost use Rattle.questions.specs.Questions.{raisedAt};
-ghost use Rattle.handed.specs.Laid.{Lays, membersAt};
+ghost use Rattle.handed.specs.Laid.{noLayout, Lays, membersAt};
 
-// Whether the bytes are an assignment; and of each set where its members begin, and how many there are.
+// Whether the bytes are an assignment; and of each set where its members begin, and how many there are. Both lists are 0 beyond the sets, and all 0 if the bytes are no assignment.
 pub struct Layout {
     pub ok: bool,
     pub starts: [usize; 8],
@@ -34,7 +33,7 @@ fn rising(part: &[u8]) -> bool
 
 // The bytes are no assignment.
 fn no_layout() -> Layout
-    ensures { λ r. ⌜ r .ok ≡ false ⌝ }
+    ensures { λ r. ⌜ r ≡ noLayout ⌝ }
 {
     Layout {
         ok: false,

@@ -10,12 +10,11 @@ use lib.Dec.{eqb}
 use borrow.Author.Tests.{eqb-true, eq-eqb}
 use Rattle.calculus.specs.Lists.{bit}
 use Rattle.calculus.specs.Terms.{term, setVar}
-use Rattle.calculus.specs.Relations.{Relation, equal, union, disjoint, subset, intersection, propagation}
+use Rattle.calculus.specs.Relations.{Relation, equal, union, disjoint, subset, intersection, propagation, by}
 use Rattle.calculus.specs.Meaning.{Constraint, different, relation, entries}
 use Rattle.calculus.specs.Branch.{Branch, rootAt, root, In, Out, Same, known}
+use Rattle.calculus.specs.Invariants.{ConstraintIn}
 use Rattle.calculus.proofs.Bools.{same-test}
-use Rattle.calculus.proofs.RuleLaws.{ConstraintIn}
-use Rattle.calculus.proofs.Tables.{by}
 use Rattle.problem.specs.Table.{Stands, constraintOf, listed, witnessOf}
 use Rattle.places.specs.Places.{entriesOf, moveAt}
 use Rattle.constraints.proofs.Decoding.{from-seven, last-kind, ofKind, reads-as, in-range}

@@ -11,15 +11,15 @@ use lib.Dec.{eqb}
 use borrow.Author.Tests.{eqb-true, eq-eqb}
 use Rattle.calculus.specs.Lists.{Each, any, first, keep, bit}
 use Rattle.calculus.specs.Terms.{Term, SetVar, term, termsFrom}
-use Rattle.calculus.specs.Relations.{Rule, Relation, Operand, Literal, applies, propagation, propagationRows}
+use Rattle.calculus.specs.Relations.{Rule, Relation, Operand, Literal, applies, propagation, propagationRows, by, litKnown}
 use Rattle.calculus.specs.Relations as R
 use Rattle.calculus.specs.Meaning.{Constraint, member, nonmember, same, different, relation, negation, exactly, interval, entries}
 use Rattle.calculus.specs.Branch.{Branch, rootAt, root, inside, outside, In, Out, known}
 use Rattle.calculus.specs.Search.{Move, operandOf, factOf, at, over, rootsOf}
+use Rattle.calculus.specs.Invariants.{ConstraintIn}
 use Rattle.calculus.proofs.Bools.{clash, test, and-i, or-l, or-r, map-Each}
 use Rattle.calculus.proofs.SearchLaws.{first-stop, first-next}
-use Rattle.calculus.proofs.RuleLaws.{ConstraintIn, applies-map}
-use Rattle.calculus.proofs.Tables.{by, litKnown}
+use Rattle.calculus.proofs.RuleLaws.{applies-map}
 use Rattle.places.specs.Places.{entriesOf}
 use Rattle.problem.specs.Table.{constraintOf}
 use Rattle.constraints.specs.declared.Constraint.{Constraint as Coded}

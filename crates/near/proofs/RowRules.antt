@@ -4,9 +4,8 @@ use mathlib.Core.Bool.{Bool, true, false, cond}
 use Prim.Native.Nat.{ℕ}
 use lib.Dec.{eqb}
 use borrow.Author.Tests.{eqb-true}
-use Rattle.calculus.specs.Relations.{equal, union, disjoint, subset, intersection}
+use Rattle.calculus.specs.Relations.{equal, union, disjoint, subset, intersection, by}
 use Rattle.calculus.proofs.Bools.{every, every-at, every3, every3-at}
-use Rattle.calculus.proofs.Tables.{by}
 use Rattle.near.specs.Nearest.{rowRule}
 
 -- two functions of five tests that agree everywhere

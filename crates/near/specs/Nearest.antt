@@ -8,11 +8,10 @@ use lib.ListN.{getD}
 use lib.Dec.{eqb}
 use Rattle.calculus.specs.Lists.{first, any, bit}
 use Rattle.calculus.specs.Terms.{Term}
-use Rattle.calculus.specs.Relations.{Rule, Relation, Operand, Literal, applies, propagationRows}
+use Rattle.calculus.specs.Relations.{Rule, Relation, Operand, Literal, applies, propagationRows, litKnown}
 use Rattle.calculus.specs.Meaning.{Constraint}
 use Rattle.calculus.specs.Branch.{Branch, rootAt, known}
 use Rattle.calculus.specs.Search.{Move}
-use Rattle.calculus.proofs.Tables.{litKnown}
 use Rattle.problem.specs.Table.{noConstraint}
 use Rattle.places.specs.Places.{offers}
 use Rattle.guards.specs.Guarded.{branchOf}

@@ -14,12 +14,11 @@ use Rattle.calculus.specs.Terms.{Term, SetVar, term}
 use Rattle.calculus.specs.Relations.{Rule, Literal, Relation, equal, union, disjoint, subset, intersection, Operand, applies, propagation, propagationRows, splitRows, negationRow}
 use Rattle.calculus.specs.Meaning.{Constraint, member, nonmember, same, different, relation, negation, exactly, interval, entries}
 use Rattle.calculus.specs.Branch.{Branch, walk, rootAt, root, In, Out, Same, known}
-use Rattle.calculus.specs.Invariants.{Falls}
+use Rattle.calculus.specs.Invariants.{Falls, ConstraintIn}
 use Rattle.calculus.specs.Search.{Move, operandOf, at, over, choose, rootsOf}
 use Rattle.calculus.proofs.Bools.{Each-imp, first-some}
 use Rattle.calculus.proofs.Walk.{walk-le, walk-root, root-walk}
 use Rattle.calculus.proofs.Sequences.{up-each, keep-each}
-use Rattle.calculus.proofs.RuleLaws.{ConstraintIn}
 use Rattle.places.specs.Places.{spanOf, InSpan, RuleOf, rowOf, listMove, moveAt, entriesOf, roots, positions, firstAt, offers}
 
 -- a list by its positions

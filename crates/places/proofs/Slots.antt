@@ -15,11 +15,10 @@ use Rattle.calculus.specs.Relations as R
 use Rattle.calculus.specs.Meaning.{Constraint, member, nonmember, same, different, relation, negation, exactly, interval, entries}
 use Rattle.calculus.specs.Branch.{Branch, root, Fact, In, Same, assert, assertAll}
 use Rattle.calculus.specs.Order.{Ranged}
-use Rattle.calculus.specs.Invariants.{WellFormed}
+use Rattle.calculus.specs.Invariants.{WellFormed, ConstraintIn}
 use Rattle.calculus.specs.Search.{operandOf, factOf, at, distinct, children}
 use Rattle.calculus.proofs.Bools.{Each-all, Each-imp, Each-map}
 use Rattle.calculus.proofs.Sequences.{up-at, each-at}
-use Rattle.calculus.proofs.RuleLaws.{ConstraintIn}
 use Rattle.calculus.proofs.Asserting.{below}
 use Rattle.calculus.proofs.Children.{asserts-fit}
 use Rattle.calculus.proofs.AddingFacts.{Each-distinct}

@@ -14,19 +14,20 @@ use Rattle.calculus.specs.Relations.{equal, union, disjoint, subset, intersecti
 use Rattle.calculus.specs.Meaning as calculus
 use Rattle.calculus.specs.Branch.{Branch}
 use Rattle.calculus.specs.Reading.{read}
+use Rattle.calculus.specs.Invariants.{ConstraintIn}
 use Rattle.calculus.proofs.Bools.{map-Each}
-use Rattle.calculus.proofs.RuleLaws.{ConstraintIn}
 use Rattle.problem.specs.declared.Table.{Table}
-use Rattle.problem.specs.Table.{Opened, Stands, constraintsOf, constraintOf, kindOf, noConstraint}
+use Rattle.problem.specs.Table.{Opened, Stands, constraintsOf, constraintOf, noConstraint}
 use Rattle.places.specs.Places.{propagationSpan, splitSpan, spanOf, InSpan, RuleOf, entriesOf, moveAt, firstAt}
 use Rattle.places.proofs.Offered.{position-of}
 use Rattle.constraints.specs.declared.Constraint.{Constraint}
 use Rattle.constraints.specs.Decoded.{decoded, Handled, Unpacked}
 use Rattle.constraints.proofs.Decoding.{kind-here, stands-there, in-range}
 use Rattle.guards.specs.declared.Guard.{Guard}
-use Rattle.guards.specs.Guarded.{passes, Guards, Standing}
+use Rattle.guards.specs.Guarded.{spans, spanIn, passes, Guards, Standing}
+use Rattle.guards.proofs.KindRules.{rules-are}
 use Rattle.search.specs.declared.Place.{Place}
-use Rattle.search.specs.First.{firstPlace, Finds}
+use Rattle.search.specs.First.{firstPlace, nowhere, Finds}
 use Rattle.search.proofs.Order.{position-hit, position-miss, positions-done, ownFirst, rulesFrom, rules-begin, rule-hit, rule-miss, rules-done, constraintsFrom, constraints-begin, constraint-hit, constraint-miss, constraints-done}
 
 -- ---- rules of a constraint
@@ -117,10 +118,11 @@ pub record AtPosition (split : Bool) (n : ℕ) (ls : List calculus.Constraint) (
 
 module _ (split : Bool) (n : ℕ) (ls : List calculus.Constraint) (b : Branch) (i : ℕ) where
   -- past the last constraint no rule applies
-  pub search-over : AtConstraint split n ls b i → length ls ≤ i → (p : Place) → p .rule ≡ 0 → Finds split n ls b p
-  search-over a h p e = record {
-    first-is = rw e (a .left ∙ constraints-done split n ls b i h);
-    within = λ z. absurd (z e);
+  pub search-over : AtConstraint split n ls b i → length ls ≤ i → (p : Place) → p ≡ nowhere → Finds split n ls b p
+  search-over a h p e = rw e record {
+    first-is = a .left ∙ constraints-done split n ls b i h;
+    within = λ z. absurd (z refl);
+    none = λ _. refl;
   }
 
   -- a constraint without rules is passed over
@@ -164,7 +166,8 @@ module _ (split : Bool) (n : ℕ) (ls : List calculus.Constraint) (b : Branch) (
           let w = position-of n b l j p (a .rule .before .standing .falls) (a .rule .before .standing .few) (a .rule .in-range) (rule-of split l j s) f in
           record {
             first-is = rw (ne-eqb j 0 z) (a .rule .before .left ∙ constraint-hit split n ls b i (a .rule .in-problem) (moveAt b l j p) (a .rule .left ∙ rule-hit n b l j end (a .more) p f));
-            within = λ _. record { in-problem = a .rule .in-problem; of-rule = s; of-entry = w .0; of-root = w .1 };
+            within = λ _. record { in-problem = a .rule .in-problem; of-rule = s; first-at = f; of-entry = w .0; of-root = w .1 };
+            none = λ q. absurd (z q);
           }
 
 -- ---- the code's values put the search there
@@ -174,10 +177,11 @@ pub constraint-in : (bs : List ℕ) (tab : Table) → Opened bs tab → (i : ℕ
 unfolding constraintOf
 constraint-in bs tab o i h = in-range bs i (getD (tab .offsets) i 0) (stands-there bs tab i o h .1)
 
--- the kind byte is that of constraint i
-pub kind-is : (bs : List ℕ) (i at : ℕ) → Stands bs i at → kindOf (getD (constraintsOf (read bs)) i noConstraint) ≡ getD bs at 0
+-- the rules of the kind byte are those of constraint i
+pub rules-here : (bs : List ℕ) (i at : ℕ) → Stands bs i at → (split : Bool) (first end : ℕ) → (first ≡ spanIn (spans split) (getD bs at 0) .0) × (end ≡ spanIn (spans split) (getD bs at 0) .1)
+    → (first ≡ spanOf split (getD (constraintsOf (read bs)) i noConstraint) .0) × (end ≡ spanOf split (getD (constraintsOf (read bs)) i noConstraint) .1)
 unfolding constraintOf
-kind-is bs i at s = sym (kind-here bs i at s)
+rules-here bs i at s split first end r = rules-are split (constraintOf bs i) (getD bs at 0) first end (sym (kind-here bs i at s)) r
 
 module _ (bs : List ℕ) (i : ℕ) (es : List ℕ) (l : Constraint) (u : Unpacked bs i es l) where
   -- constraint i is the one decoded

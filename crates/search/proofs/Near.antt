@@ -14,10 +14,9 @@ use Rattle.calculus.specs.Terms.{Term, term}
 use Rattle.calculus.specs.Relations.{applies}
 use Rattle.calculus.specs.Meaning.{Constraint}
 use Rattle.calculus.specs.Branch.{Branch, known}
-use Rattle.calculus.specs.Invariants.{Falls}
+use Rattle.calculus.specs.Invariants.{Falls, ConstraintIn}
 use Rattle.calculus.specs.Search.{Move}
 use Rattle.calculus.proofs.Bools.{and-r, and-i, same-test, first-some}
-use Rattle.calculus.proofs.RuleLaws.{ConstraintIn}
 use Rattle.problem.specs.Table.{noConstraint}
 use Rattle.places.specs.Places.{propagationSpan, InSpan, moveAt, firstAt, offers}
 use Rattle.places.proofs.Offered.{position-of}
@@ -106,6 +105,7 @@ module _ (n : ℕ) (b : Branch) (l : Constraint) where
 
     record AtRoot (j p : ℕ) : Type 0 where
       ruled : InSpan (propagationSpan l) j
+      first-at : firstAt n b l j ≡ some p
       own : ownFirst n b false l ≡ some (moveAt b l j p)
       concerned : (p < 64) × (moveAt b l j p .0 ≡ term p)
 
@@ -119,7 +119,7 @@ module _ (n : ℕ) (b : Branch) (l : Constraint) where
             let k : w .rule ≡ j = sym (own-rule m w) ∙ ap ruleOf (sym q) ∙ sym near-own ∙ e in
             let at = position-of n b l (w .rule) (w .position) fall few c (rule-of false l (w .rule) (w .ruled)) (w .at-first) .1 (λ x. y (sym k ∙ x)) in
             let p : w .position ≡ h = ap (λ (t : Term). t .index) (sym (at .1)) ∙ ap (λ (x : Term × Move). x .0 .index) (sym (w .is)) ∙ own-concerned m q in
-            subst (λ (i : ℕ). AtRoot i h) k (subst (AtRoot (w .rule)) p (record { ruled = w .ruled; own = q ∙ ap some (w .is); concerned = at }))
+            subst (λ (i : ℕ). AtRoot i h) k (subst (AtRoot (w .rule)) p (record { ruled = w .ruled; first-at = w .at-first; own = q ∙ ap some (w .is); concerned = at }))
 
 -- ---- the search after the constraints that have nothing to do
 
@@ -149,5 +149,6 @@ module _ (n : ℕ) (ls : List Constraint) (b : Branch) (from h : ℕ) (r : Near)
       let w = at-root n b (getD ls i noConstraint) h (calm i (f .0)) (st .falls) (st .few) (c i (f .0)) (r .rule) z y (f .1) in
       record {
         first-is = rw (ne-eqb (r .rule) 0 z) (passed-by i (omega arith) .left ∙ constraint-hit false n ls b i l (moveAt b (getD ls i noConstraint) (r .rule) h) (w .own));
-        within = λ _. record { in-problem = l; of-rule = w .ruled; of-entry = λ e. absurd (y e); of-root = λ _. w .concerned };
+        within = λ _. record { in-problem = l; of-rule = w .ruled; first-at = w .first-at; of-entry = λ e. absurd (y e); of-root = λ _. w .concerned };
+        none = λ q. absurd (z q);
       }

@@ -11,8 +11,8 @@ use Rattle.calculus.specs.Meaning as calculus
 use Rattle.calculus.specs.Branch.{Branch, root, In, Out, Same, known}
 use Rattle.calculus.specs.Search.{at as placed, operandOf}
 use Rattle.calculus.specs.Reading.{read}
+use Rattle.calculus.specs.Invariants.{ConstraintIn}
 use Rattle.calculus.proofs.SearchLaws.{first-next}
-use Rattle.calculus.proofs.RuleLaws.{ConstraintIn}
 use Rattle.problem.specs.Table.{Stands, constraintsOf, constraintOf, witnessOf, listed}
 use Rattle.constraints.proofs.Decoding.{ofKind, reads-as, in-range}
 use Rattle.guards.specs.Guarded.{quiet, Reaching}

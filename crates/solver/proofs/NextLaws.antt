@@ -11,9 +11,8 @@ use Rattle.calculus.specs.Relations.{applies}
 use Rattle.calculus.specs.Meaning.{Constraint}
 use Rattle.calculus.specs.Branch.{Branch, known}
 use Rattle.calculus.specs.Search.{propagations, splits, rootsOf, Candidate, candidates, solved, step, children, taken, next}
-use Rattle.calculus.specs.Invariants.{Falls}
+use Rattle.calculus.specs.Invariants.{Falls, ConstraintIn}
 use Rattle.calculus.proofs.SearchLaws.{first-left, first-none-app}
-use Rattle.calculus.proofs.RuleLaws.{ConstraintIn}
 use Rattle.branch.specs.Held.{restrict}
 use Rattle.branch.proofs.Restricting.{Among}
 use Rattle.search.specs.First.{firstPlace}

@@ -6,7 +6,7 @@ use native.Mathlib.Omega.{arith}
 use lib.ListN.{length, getD}
 use Rattle.calculus.specs.Lists.{Each}
 use Rattle.calculus.specs.Terms.{Term, term}
-use Rattle.calculus.proofs.RuleLaws.{ConstraintIn}
+use Rattle.calculus.specs.Invariants.{ConstraintIn}
 use Rattle.calculus.proofs.ConstraintLaws.{constraints-in}
 use Rattle.calculus.proofs.ReadValid.{read-valid}
 use Rattle.calculus.proofs.Sequences.{terms-each}

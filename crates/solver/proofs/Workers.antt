@@ -69,7 +69,7 @@ module _ (bs : List ℕ) (tab : Table) (o : Opened bs tab) (b : Branch) (good : 
 
   -- and the other way round
   pub split-finds : Splits bs tab b p → Finds true (tab .terms) (constraints bs tab) (held b) p
-  split-finds w = record { first-is = w .first-is; within = λ _. w .within }
+  split-finds w = record { first-is = w .first-is; within = λ _. w .within; none = λ z. absurd (w .some-rule z) }
 
   module _ (w : Splits bs tab b p) where
     pub split-step : next (tab .terms) (constants bs tab) (constraints bs tab) (shown bs tab b) ≡ step (splitRecord bs tab b p) (kept bs tab b (placed bs tab p) (p .rule) (p .position) 0)
@@ -88,7 +88,7 @@ module _ (bs : List ℕ) (tab : Table) (o : Opened bs tab) (b : Branch) (good : 
 
 -- ---- a branch that propagation has settled
 
-module _ (bs : List ℕ) (tab : Table) (o : Opened bs tab) (budget : ℕ) (b : Branch) (c : Counts) (F T : List ℕ) (r : Inferred) (U : List ℕ) (set : Settles bs tab budget b c T r U) (z : r .found ≡ 0)
+module _ (bs : List ℕ) (tab : Table) (o : Opened bs tab) (budget : ℕ) (b : Branch) (c : Counts) (F T : List ℕ) (r : Inferred) (U : List ℕ) (set : Settles bs tab budget b c T r U) (z : r .settled ≡ true)
     (p : Place) (f : Finds true (tab .terms) (constraints bs tab) (held (r .branch)) p) where
   abbrev at : Branch
   at = r .branch

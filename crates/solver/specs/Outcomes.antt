@@ -120,11 +120,11 @@ pub record Infers (bs : List ℕ) (tab : Table) (b : Branch) (r : Inference) : T
   pub finds : Finds false (tab .terms) (constraints bs tab) (held b) (record { constraint = r .constraint; rule = r .rule; position = position })
   pub chosen : ¬ (r .rule ≡ 0) → Chosen bs b r position
 
--- propagation steps were taken until none applies (found 0), or until the branch closed or the budget was spent
+-- propagation steps were taken until none applies (settled), or until the branch closed or the budget was spent
 pub record Settles (bs : List ℕ) (tab : Table) (budget : ℕ) (b : Branch) (c : Counts) (trace : List ℕ) (r : Inferred) (after : List ℕ) : Type 0 where
-  pub leads : r .found ≡ 0 → ((forms : List ℕ) → Leads bs tab budget b (state c forms trace) (r .branch) (state (r .counts) forms after)) × (remaining bs tab (r .branch) ≤ remaining bs tab b)
-  pub good : r .found ≡ 0 → Good (tab .constants) (r .branch) × Going budget (r .counts) after × (r .counts .forms ≡ c .forms) × Settled bs tab (r .branch)
-  pub ended : ¬ (r .found ≡ 0) → (forms : List ℕ) → Outcome bs tab budget b (state c forms trace) (state (r .counts) forms after)
+  pub leads : r .settled ≡ true → ((forms : List ℕ) → Leads bs tab budget b (state c forms trace) (r .branch) (state (r .counts) forms after)) × (remaining bs tab (r .branch) ≤ remaining bs tab b)
+  pub good : r .settled ≡ true → Good (tab .constants) (r .branch) × Going budget (r .counts) after × (r .counts .forms ≡ c .forms) × Settled bs tab (r .branch)
+  pub ended : r .settled ≡ false → (forms : List ℕ) → Outcome bs tab budget b (state c forms trace) (state (r .counts) forms after)
 
 -- a run of these bytes, if they are a problem, leaves what the calculus's run does
 abbrev pub Runs : List ℕ → ℕ → List ℕ → List ℕ → State → Type 0

@@ -35,11 +35,11 @@ pub struct Inference {
     pub act: Act,
 }
 
-// A branch after propagation, with the counts: found is 0 if no rule applies, 2 if the branch is closed or the budget spent.
+// A branch after propagation, with the counts. It is settled if no propagation rule applies; otherwise it is closed, or the budget is spent.
 pub struct Inferred {
     pub branch: Branch,
     pub counts: Counts,
-    pub found: u8,
+    pub settled: bool,
 }
 
 // The first propagation step of a branch. Of the constraints before number from, no rule of propagation applies but where the root is concerned.
@@ -146,7 +146,7 @@ fn settle<'a>(
             return Inferred {
                 branch: at,
                 counts: counts,
-                found: 0,
+                settled: true,
             };
         }
         let steps = counts.steps;
@@ -159,7 +159,7 @@ fn settle<'a>(
                     forms: forms,
                     stop: 1,
                 },
-                found: 2,
+                settled: false,
             };
         }
         let i = step.constraint;
@@ -177,7 +177,7 @@ fn settle<'a>(
             return Inferred {
                 branch: at,
                 counts: counts,
-                found: 2,
+                settled: false,
             };
         }
         note(trace, steps, rule, i, h, 1);
@@ -234,7 +234,7 @@ fn work<'a>(
     requires { ⌜ Tabled (now problem) totals (now offsets) (now witnesses) × (now numbers ≡ upFrom 0 64) × Good (totals .constants) b × (c .stop ≡ 0) × Fine (totals .terms) budget (state c (now forms) (now trace)) × (totals .terms ≡ 0 → c .forms ≡ 0) × Begins (now problem) (tableBy totals (now offsets) (now witnesses)) b from root ⌝ }
     ensures { λ r. ⌜ Outcome (now (problem .entry)) (tableBy totals (now (offsets .entry)) (now (witnesses .entry))) budget b (state c (now (forms .entry)) (now (trace .entry))) (state r (now (forms .exit)) (now (trace .exit))) ⌝ }
 {
-    let settled = settle(
+    let inferred = settle(
         problem,
         numbers,
         totals,
@@ -247,11 +247,11 @@ fn work<'a>(
         from,
         root,
     );
-    let counts = settled.counts;
-    if settled.found != 0 {
+    let counts = inferred.counts;
+    if !inferred.settled {
         return counts;
     }
-    let at = settled.branch;
+    let at = inferred.branch;
     let place = search(
         problem,
         numbers,

@@ -66,11 +66,11 @@ add-result c = search needs
 
 returns-3 : tie.Need-returns-3
 returns-3 c = let e = c .before .before .before .before .before .before in let r = e .before in
-    check-fails _ _ (problem-lent r) (assignment-lent r) _ (opened e) _ (c .before .before .before .before .before .lay-out .ensures) (not-f _ (c .before .before .before .if2 .left)) _ (c .before .before .lowest .ensures) (c .if3 .taken) _ refl
+    check-fails _ _ (problem-lent r) (assignment-lent r) _ (opened e) _ (c .before .before .before .before .before .lay-out .ensures) (not-f _ (c .before .before .before .if2 .left)) _ (c .before .before .lowest .ensures .0) (c .if3 .taken) _ refl
 
 returns-4 : tie.Need-returns-4
 returns-4 c = let e = c .before .before .before .before .before .before in let r = e .before in
-    check-holds _ _ (problem-lent r) (assignment-lent r) _ (opened e) _ (c .before .before .before .before .before .lay-out .ensures) (not-f _ (c .before .before .before .if2 .left)) _ (c .before .before .lowest .ensures) (omega (arith, c .if3 .left))
+    check-holds _ _ (problem-lent r) (assignment-lent r) _ (opened e) _ (c .before .before .before .before .before .lay-out .ensures) (not-f _ (c .before .before .before .if2 .left)) _ (c .before .before .lowest .ensures .0) (omega (arith, c .if3 .left))
 
 pub fuselinda-check-spec : {M : Type 1} → statement M
 fuselinda-check-spec =

@@ -41,7 +41,7 @@ holds-requires : tie.Need-holds-requires Inv-loop μ-loop
 holds-requires c κs = let q = c .before .before .before .before .before .before .before .pre in (q .0, c .before .before .loop .inv .2, c .before .loop-test .taken, q .1)
 
 returns : tie.Need-returns Inv-loop μ-loop
-returns c = let q = c .before .before .before .before .before .before .before .before .before .pre in let n = constraint-count _ _ (q .0) in fails-at _ _ _ n _ (c .before .before .before .loop-test .taken) (c .before .before .before .before .loop .inv .1) (test-at _ _ _ _ (sym (c .before .holds .ensures) ∙ not-t _ (c .if1 .taken)))
+returns c = let q = c .before .before .before .before .before .before .before .before .before .pre in let n = constraint-count _ _ (q .0) in (fails-at _ _ _ n _ (c .before .before .before .loop-test .taken) (c .before .before .before .before .loop .inv .1) (test-at _ _ _ _ (sym (c .before .holds .ensures) ∙ not-t _ (c .if1 .taken))), omega (arith, c .before .before .before .loop-test .taken))
 
 add-i : tie.Need-add-i Inv-loop μ-loop
 add-i c = search needs
@@ -53,7 +53,7 @@ loop-again : tie.Need-loop-again Inv-loop μ-loop
 loop-again c = let q = c .before .before .before .before .before .before .before .before .before .pre in let n = constraint-count _ _ (q .0) in (omega (arith, c .before .before .before .loop-test .taken), passes-at _ _ _ n _ (c .before .before .before .loop-test .taken) (c .before .before .before .before .loop .inv .1) (test-at _ _ _ _ (sym (c .before .holds .ensures) ∙ not-f _ (c .if1 .left))), c .before .before .before .before .loop .inv .2)
 
 returns-2 : tie.Need-returns-2 Inv-loop μ-loop
-returns-2 c = let q = c .before .before .before .before .before .before .pre in let n = constraint-count _ _ (q .0) in none-at _ _ _ n _ (c .loop-test .left) (c .before .loop .inv .1)
+returns-2 c = let q = c .before .before .before .before .before .before .pre in let n = constraint-count _ _ (q .0) in (none-at _ _ _ n _ (c .loop-test .left) (c .before .loop .inv .1), omega arith)
 
 pub lowest-spec : {M : Type 1} → statement M
 lowest-spec =

@@ -5,7 +5,7 @@ use native.Mathlib.Omega.{arith}
 use lib.ListN.{length, getD}
 use lib.Dec.{eqb}
 use borrow.Author.Needs.{needs}
-use Rattle.calculus.proofs.Tables.{by}
+use Rattle.calculus.specs.Relations.{by}
 use Rattle.guards.specs.Guarded.{only, unless, decided, numbered, rowGuard, listGuard}
 use Rattle.guards.proofs.GuardLaws.{ap₃, root-of, root-low, mask-of, in-range, guards-right, related-number}
 use Rattle.guards.proofs.guard_of.Statement.{statement}

@@ -12,8 +12,8 @@ use Rattle.problem.specs.Table.{Stands, constraintsOf, witnessOf}
 use Rattle.problem.proofs.Access.{constraint-count}
 use Rattle.constraints.proofs.Decoding.{stands-there, two-operands}
 use Rattle.guards.specs.Guarded.{branchOf, passes}
-use Rattle.search.specs.declared.Place.{Place}
-use Rattle.search.proofs.Finding.{AtConstraint, AtRule, AtPosition, constraint-in, standing-64, entries-below, guarded-entry, kind-is, no-rules, rules-start, rule-here, positions-start, next-position, next-rule, next-constraint, search-over, search-hit}
+use Rattle.search.specs.First.{nowhere}
+use Rattle.search.proofs.Finding.{AtConstraint, AtRule, AtPosition, constraint-in, standing-64, entries-below, guarded-entry, rules-here, no-rules, rules-start, rule-here, positions-start, next-position, next-rule, next-constraint, search-over, search-hit}
 use Rattle.search.proofs.Near.{search-from, near-hit}
 use Rattle.search.proofs.Skipping.{reaching, passed-over}
 use Rattle.search.proofs.search.Statement.{statement}
@@ -21,7 +21,7 @@ use Rattle.search.proofs.search.Tie as tie
 
 abbrev Inv-loop2 : tie.InvT-loop2
 Inv-loop2 problem numbers offsets witnesses parents insides outsides split from root terms count found start place₀ i n off kind end op1 op2 w l entries j guard last p₀ place p =
-    (place .rule ≡ 0) × AtPosition split terms (constraintsOf (read problem)) (branchOf parents insides outsides) i j end (passes guard (branchOf parents insides outsides) (map term entries) j) p last
+    (place ≡ nowhere) × AtPosition split terms (constraintsOf (read problem)) (branchOf parents insides outsides) i j end (passes guard (branchOf parents insides outsides) (map term entries) j) p last
 
 abbrev μ-loop2 : tie.MeasureT-loop2
 μ-loop2 problem numbers offsets witnesses parents insides outsides split from root terms count found start place₀ i n off kind end op1 op2 w l entries j guard last p₀ place p =
@@ -29,7 +29,7 @@ abbrev μ-loop2 : tie.MeasureT-loop2
 
 abbrev Inv-loop : tie.InvT-loop
 Inv-loop problem numbers offsets witnesses parents insides outsides split from root terms count found start place₀ i n off kind end op1 op2 w l entries j₀ place j =
-    (place .rule ≡ 0) × AtRule split terms (constraintsOf (read problem)) (branchOf parents insides outsides) i j end
+    (place ≡ nowhere) × AtRule split terms (constraintsOf (read problem)) (branchOf parents insides outsides) i j end
 
 abbrev μ-loop : tie.MeasureT-loop
 μ-loop problem numbers offsets witnesses parents insides outsides split from root terms count found start place₀ i n off kind end op1 op2 w l entries j₀ place j =
@@ -37,7 +37,7 @@ abbrev μ-loop : tie.MeasureT-loop
 
 abbrev Inv-search : tie.InvT-search
 Inv-search problem numbers offsets witnesses parents insides outsides split from root terms count found start place₀ i₀ place i =
-    (place .rule ≡ 0) × AtConstraint split terms (constraintsOf (read problem)) (branchOf parents insides outsides) i
+    (place ≡ nowhere) × AtConstraint split terms (constraintsOf (read problem)) (branchOf parents insides outsides) i
 
 abbrev μ-search : tie.MeasureT-search
 μ-search problem numbers offsets witnesses parents insides outsides split from root terms count found start place₀ i₀ place i =
@@ -114,7 +114,7 @@ loop-holds c =
     let k = c .before .before .before .before .before .before .before .before .before .before .before .before in
     let v = k .before .search .inv in
     let s = k .before .before .before .before .before .before .before .before .before .before .before in
-    let r = c .before .before .before .before .before .before .before .before .before .rules .ensures _ (kind-is _ _ _ (stands k .1)) in
+    let r = rules-here _ _ _ (stands k .1) (s .args .split) _ _ (c .before .before .before .before .before .before .before .before .before .rules .ensures) in
     (v .0, rules-start _ _ _ _ (c .list-at .ensures) _ _ _ (v .1) (omega (arith, k .search-test .taken, constraint-count _ _ (s .pre .0 .opened))) _ _ (r .0) (r .1))
 
 guard-at-requires : tie.Need-guard-at-requires Inv-loop2 μ-loop2 Inv-loop μ-loop Inv-search μ-search
@@ -171,12 +171,12 @@ search-again c =
     let v = k .before .search .inv in
     let s = k .before .before .before .before .before .before .before .before .before .before .before in
     let h = stands k in
-    let r = c .before .before .rules .ensures _ (kind-is _ _ _ (h .1)) in
+    let r = rules-here _ _ _ (h .1) (s .args .split) _ _ (c .before .before .rules .ensures) in
     ⊎-elim
-    (λ w. (ap (λ (p : Place). p .rule) (w .10) ∙ w .8 .inv .0, next-constraint _ _ _ _ _ _ _ (w .8 .inv .1) (w .9 .left)))
+    (λ w. (w .10 ∙ w .8 .inv .0, next-constraint _ _ _ _ _ _ _ (w .8 .inv .1) (w .9 .left)))
     (⊎-elim
-    (λ w. (ap (λ (p : Place). p .rule) (w .6) ∙ v .0, passed-over _ _ _ _ (h .1) (h .2) _ _ _ (v .1) (omega (arith, k .search-test .taken, constraint-count _ _ (s .pre .0 .opened))) (sym (w .4 .ensures) ∙ not-false _ (w .5 .left))))
-    (λ w. (ap (λ (p : Place). p .rule) (w .1) ∙ v .0, no-rules _ _ _ _ _ (v .1) (omega (arith, k .search-test .taken, constraint-count _ _ (s .pre .0 .opened))) _ _ (r .0) (r .1) (w .0 .left))))
+    (λ w. (w .6 ∙ v .0, passed-over _ _ _ _ (h .1) (h .2) _ _ _ (v .1) (omega (arith, k .search-test .taken, constraint-count _ _ (s .pre .0 .opened))) (sym (w .4 .ensures) ∙ not-false _ (w .5 .left))))
+    (λ w. (w .1 ∙ v .0, no-rules _ _ _ _ _ (v .1) (omega (arith, k .search-test .taken, constraint-count _ _ (s .pre .0 .opened))) _ _ (r .0) (r .1) (w .0 .left))))
     (c .if3 .came)
 
 returns-2 : tie.Need-returns-2 Inv-loop2 μ-loop2 Inv-loop μ-loop Inv-search μ-search

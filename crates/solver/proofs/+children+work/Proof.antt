@@ -181,17 +181,17 @@ work-same-length : (t : ℕ) → work-lts.Need-same-length (calls-work t) (work-
 work-same-length t c = search needs
 
 work-returns : (t : ℕ) → work-lts.Need-returns (calls-work t) (work-at t) work.Post
-work-returns t c = c .before .before .before .before .before .settle .ensures .ended (c .if1 .taken) _
+work-returns t c = c .before .before .before .before .before .settle .ensures .ended (not-t _ (c .if1 .taken)) _
 
 work-search-requires : (t : ℕ) → work-lts.Need-search-requires (calls-work t) (work-at t) work.Post
 work-search-requires t c κs =
     let q = c .before .before .before .before .before .before .before .before .before .before .before .before .before .before .before .before .before .before .before .before .before .pre .1 in
-    (q .0, q .1, standing _ _ (q .0 .opened) _ (c .before .before .before .before .before .before .before .before .before .before .before .before .before .settle .ensures .good (c .before .before .before .before .before .before .before .before .if1 .left) .0), omega arith, omega arith, (λ l. absurd (omega (arith, l))), (λ _. refl), (λ i l. absurd (omega (arith, l))))
+    (q .0, q .1, standing _ _ (q .0 .opened) _ (c .before .before .before .before .before .before .before .before .before .before .before .before .before .settle .ensures .good (not-f _ (c .before .before .before .before .before .before .before .before .if1 .left)) .0), omega arith, omega arith, (λ l. absurd (omega (arith, l))), (λ _. refl), (λ i l. absurd (omega (arith, l))))
 
 work-list-form-requires : (t : ℕ) → work-lts.Need-list-form-requires (calls-work t) (work-at t) work.Post
 work-list-form-requires t c κs =
     let q = c .before .before .before .before .before .before .before .before .before .before .before .before .before .before .before .before .before .before .before .before .before .before .before .before .before .pre .1 in
-    let g = c .before .before .before .before .before .before .before .before .before .before .before .before .before .before .before .before .before .settle .ensures .good (c .before .before .before .before .before .before .before .before .before .before .before .before .if1 .left) in
+    let g = c .before .before .before .before .before .before .before .before .before .before .before .before .before .before .before .before .before .settle .ensures .good (not-f _ (c .before .before .before .before .before .before .before .before .before .before .before .before .if1 .left)) in
     (terms-few _ _ (q .0 .opened), g .0 .falls, same-room _ _ _ _ (g .2) (q .4 .written), λ z. g .2 ∙ q .5 z)
 
 work-same-length-2 : (t : ℕ) → work-lts.Need-same-length-2 (calls-work t) (work-at t) work.Post
@@ -201,34 +201,35 @@ work-same-length-3 : (t : ℕ) → work-lts.Need-same-length-3 (calls-work t) (w
 work-same-length-3 t c = search needs
 
 work-returns-2 : (t : ℕ) → work-lts.Need-returns-2 (calls-work t) (work-at t) work.Post
-work-returns-2 t c = let q = c .before .before .before .before .before .before .before .before .before .before .before .before .before .before .before .before .before .before .before .before .before .before .before .before .before .before .before .before .pre .1 in works-form _ _ (q .0 .opened) _ _ _ _ _ _ _ (c .before .before .before .before .before .before .before .before .before .before .before .before .before .before .before .before .before .before .before .before .settle .ensures) (c .before .before .before .before .before .before .before .before .before .before .before .before .before .before .before .if1 .left) _ (c .before .before .before .before .before .before .search .ensures) (c .before .before .before .before .if2 .taken) _ _ (c .before .before .list-form .ensures)
+work-returns-2 t c = let q = c .before .before .before .before .before .before .before .before .before .before .before .before .before .before .before .before .before .before .before .before .before .before .before .before .before .before .before .before .pre .1 in works-form _ _ (q .0 .opened) _ _ _ _ _ _ _ (c .before .before .before .before .before .before .before .before .before .before .before .before .before .before .before .before .before .before .before .before .settle .ensures) (not-f _ (c .before .before .before .before .before .before .before .before .before .before .before .before .before .before .before .if1 .left)) _ (c .before .before .before .before .before .before .search .ensures) (c .before .before .before .before .if2 .taken) _ _ (c .before .before .list-form .ensures)
 
 work-same-length-4 : (t : ℕ) → work-lts.Need-same-length-4 (calls-work t) (work-at t) work.Post
 work-same-length-4 t c = search needs
 
 work-returns-3 : (t : ℕ) → work-lts.Need-returns-3 (calls-work t) (work-at t) work.Post
-work-returns-3 t c = let q = c .before .before .before .before .before .before .before .before .before .before .before .before .before .before .before .before .before .before .before .before .before .before .before .before .before .pre .1 in works-spent _ _ (q .0 .opened) _ _ _ _ _ _ _ (c .before .before .before .before .before .before .before .before .before .before .before .before .before .before .before .before .before .settle .ensures) (c .before .before .before .before .before .before .before .before .before .before .before .before .if1 .left) _ (c .before .before .before .search .ensures) (c .before .if2 .left) (c .if3 .taken)
+work-returns-3 t c = let q = c .before .before .before .before .before .before .before .before .before .before .before .before .before .before .before .before .before .before .before .before .before .before .before .before .before .pre .1 in works-spent _ _ (q .0 .opened) _ _ _ _ _ _ _ (c .before .before .before .before .before .before .before .before .before .before .before .before .before .before .before .before .before .settle .ensures) (not-f _ (c .before .before .before .before .before .before .before .before .before .before .before .before .if1 .left)) _ (c .before .before .before .search .ensures) (c .before .if2 .left) (c .if3 .taken)
 
 work-note-split-requires : (t : ℕ) → work-lts.Need-note-split-requires (calls-work t) (work-at t) work.Post
 work-note-split-requires t c κs =
     let q = c .before .before .before .before .before .before .before .before .before .before .before .before .before .before .before .before .before .before .before .before .before .before .before .before .before .before .before .before .before .before .before .before .before .pre .1 in
     let e = c .before .before .before .before .before .before .before .before .before .before .before .before .before .before .before .before .before .before .before .before .before .before .before .before .before .settle .ensures in
-    let z = c .before .before .before .before .before .before .before .before .before .before .before .before .before .before .before .before .before .before .before .before .if1 .left in
+    let z = not-f _ (c .before .before .before .before .before .before .before .before .before .before .before .before .before .before .before .before .before .before .before .before .if1 .left) in
     let g = e .good z in
     (q .0, q .1, g .0, splits _ _ (q .0 .opened) _ _ _ [] _ _ _ e z _ (c .before .before .before .before .before .before .before .before .before .before .before .search .ensures) (c .before .before .before .before .before .before .before .before .before .if2 .left), omega (arith, g .1 .within, g .1 .traced, c .before .before .before .before .before .before .before .before .if3 .left))
 
 work-add-t45 : (t : ℕ) → work-lts.Need-add-t45 (calls-work t) (work-at t) work.Post
-work-add-t45 t c = let g = c .before .before .before .before .before .before .before .before .before .before .before .before .before .before .before .before .before .before .before .before .before .before .before .before .before .before .before .before .before .before .settle .ensures .good (c .before .before .before .before .before .before .before .before .before .before .before .before .before .before .before .before .before .before .before .before .before .before .before .before .before .if1 .left) in omega (arith, g .1 .within, g .1 .few)
+work-add-t45 t c = let g = c .before .before .before .before .before .before .before .before .before .before .before .before .before .before .before .before .before .before .before .before .before .before .before .before .before .before .before .before .before .before .settle .ensures .good (not-f _ (c .before .before .before .before .before .before .before .before .before .before .before .before .before .before .before .before .before .before .before .before .before .before .before .before .before .if1 .left)) in omega (arith, g .1 .within, g .1 .few)
 
 work-children-requires : (t : ℕ) → work-lts.Need-children-requires (calls-work t) (work-at t) work.Post
 work-children-requires t c κs =
     let s = c .before .before .before .before .before .before .before .before .before .before .before .before .before .before .before .before .before .before .before .before .before .before .before .before .before .before .before .before .before .before .before .before .before .before .before .before .before .before in
     let q = s .pre .1 in
     let e = c .before .before .before .before .before .before .before .before .before .before .before .before .before .before .before .before .before .before .before .before .before .before .before .before .before .before .before .before .before .before .settle .ensures in
-    let z = c .before .before .before .before .before .before .before .before .before .before .before .before .before .before .before .before .before .before .before .before .before .before .before .before .before .if1 .left in
+    let z = not-f _ (c .before .before .before .before .before .before .before .before .before .before .before .before .before .before .before .before .before .before .before .before .before .before .before .before .before .if1 .left) in
     let f = c .before .before .before .before .before .before .before .before .before .before .before .before .before .before .before .before .search .ensures in
     let n = c .before .before .before .before .before .before .before .before .before .before .before .before .before .before .if2 .left in
-    (omega (arith, e .leads z .1, s .pre .0), (q .0, q .1, e .good z .0, splits _ _ (q .0 .opened) _ _ _ [] _ _ _ e z _ f n, refl, split-fine _ _ (q .0 .opened) _ _ _ _ _ _ _ e z _ f n (c .before .before .before .before .before .before .before .before .before .before .before .before .before .if3 .left) _ (c .before .before .before .before .note-split .ensures) (q .4)))
+    let l = e .leads z .1 in
+    (omega (arith, l, s .pre .0), (q .0, q .1, e .good z .0, splits _ _ (q .0 .opened) _ _ _ [] _ _ _ e z _ f n, refl, split-fine _ _ (q .0 .opened) _ _ _ _ _ _ _ e z _ f n (c .before .before .before .before .before .before .before .before .before .before .before .before .before .if3 .left) _ (c .before .before .before .before .note-split .ensures) (q .4)))
 
 work-same-length-5 : (t : ℕ) → work-lts.Need-same-length-5 (calls-work t) (work-at t) work.Post
 work-same-length-5 t c = search needs
@@ -237,7 +238,7 @@ work-same-length-6 : (t : ℕ) → work-lts.Need-same-length-6 (calls-work t) (w
 work-same-length-6 t c = c .before .trace3 .given ∙ c .before .before .before .before .before .before .before .before .trace2 .given ∙ c .before .before .before .before .before .before .before .before .before .before .before .before .before .before .before .before .before .before .before .before .before .before .before .before .before .before .before .before .before .before .before .before .before .before .trace .given
 
 work-returns-4 : (t : ℕ) → work-lts.Need-returns-4 (calls-work t) (work-at t) work.Post
-work-returns-4 t c = let q = c .before .before .before .before .before .before .before .before .before .before .before .before .before .before .before .before .before .before .before .before .before .before .before .before .before .before .before .before .before .before .before .before .before .before .before .before .before .before .before .before .before .before .before .pre .1 in works-split _ _ (q .0 .opened) _ _ _ _ _ _ _ (c .before .before .before .before .before .before .before .before .before .before .before .before .before .before .before .before .before .before .before .before .before .before .before .before .before .before .before .before .before .before .before .before .before .before .before .settle .ensures) (c .before .before .before .before .before .before .before .before .before .before .before .before .before .before .before .before .before .before .before .before .before .before .before .before .before .before .before .before .before .before .if1 .left) _ (c .before .before .before .before .before .before .before .before .before .before .before .before .before .before .before .before .before .before .before .before .before .search .ensures) (c .before .before .before .before .before .before .before .before .before .before .before .before .before .before .before .before .before .before .before .if2 .left) (c .before .before .before .before .before .before .before .before .before .before .before .before .before .before .before .before .before .before .if3 .left) _ (c .before .before .before .before .before .before .before .before .before .note-split .ensures) _ (c .before .before .before .before .children .ensures)
+work-returns-4 t c = let q = c .before .before .before .before .before .before .before .before .before .before .before .before .before .before .before .before .before .before .before .before .before .before .before .before .before .before .before .before .before .before .before .before .before .before .before .before .before .before .before .before .before .before .before .pre .1 in works-split _ _ (q .0 .opened) _ _ _ _ _ _ _ (c .before .before .before .before .before .before .before .before .before .before .before .before .before .before .before .before .before .before .before .before .before .before .before .before .before .before .before .before .before .before .before .before .before .before .before .settle .ensures) (not-f _ (c .before .before .before .before .before .before .before .before .before .before .before .before .before .before .before .before .before .before .before .before .before .before .before .before .before .before .before .before .before .before .if1 .left)) _ (c .before .before .before .before .before .before .before .before .before .before .before .before .before .before .before .before .before .before .before .before .before .search .ensures) (c .before .before .before .before .before .before .before .before .before .before .before .before .before .before .before .before .before .before .before .if2 .left) (c .before .before .before .before .before .before .before .before .before .before .before .before .before .before .before .before .before .before .if3 .left) _ (c .before .before .before .before .before .before .before .before .before .note-split .ensures) _ (c .before .before .before .before .children .ensures)
 
 pub +children+work-spec : {M : Type 1} → statement M
 +children+work-spec = close μ-children μ-work (λ t. children-lts.spec (calls-children t)

@@ -6,7 +6,7 @@ use Rattle.problem.specs.Table.{tableBy}
 use Rattle.solver.specs.Outcomes.{remaining, Begins}
 use Rattle.solver.proofs.Inferring.{first-slot}
 use Rattle.solver.proofs.Changing.{answers, next-begins}
-use Rattle.solver.proofs.Settling.{advances-none, advances-spent, advances-closed, advances-went, Since, since-begin, since-again, since-ends}
+use Rattle.solver.proofs.Settling.{Since, since-begin, since-again, since-settled, since-ended, none-applies, step-spent, step-closes, step-goes, step-falls}
 use Rattle.solver.proofs.settle.Statement.{statement}
 use Rattle.solver.proofs.settle.Tie as tie
 use Rattle.solver.proofs.settle.Reads as reads
@@ -38,7 +38,7 @@ returns : tie.Need-returns Inv-loop μ-loop
 returns c =
     let p = c .before .before .before .before .before .before .before .before .before .before .before .before .before .before .before .pre in
     let v = c .before .before .before .before .before .before .before .before .before .loop .inv in
-    since-ends _ _ _ _ _ _ _ _ _ (v .0) _ _ (advances-none _ _ (p .0 .opened) _ _ (v .0 .good) _ _ (v .0 .going) _ (c .before .infer .ensures .finds) (c .if1 .taken)) (λ e. absurd (omega (arith, e)))
+    since-settled _ _ _ _ _ _ _ _ _ (v .0) (none-applies _ _ (p .0 .opened) _ _ (v .0 .good) _ _ (v .0 .going) _ (c .before .infer .ensures .finds) (c .if1 .taken))
 
 same-length-2 : tie.Need-same-length-2 Inv-loop μ-loop
 same-length-2 c = search needs
@@ -47,7 +47,7 @@ returns-2 : tie.Need-returns-2 Inv-loop μ-loop
 returns-2 c =
     let p = c .before .before .before .before .before .before .before .before .before .before .before .before .before .before .before .before .pre in
     let v = c .before .before .before .before .before .before .before .before .before .before .loop .inv in
-    since-ends _ _ _ _ _ _ _ _ _ (v .0) _ _ (advances-spent _ _ (p .0 .opened) _ _ (v .0 .good) _ _ (v .0 .going) _ (c .before .before .infer .ensures .finds) (c .before .if1 .left) (c .if2 .taken)) (λ e. absurd (omega (arith, e)))
+    since-ended _ _ _ _ _ _ _ _ _ (v .0) _ refl _ (step-spent _ _ (p .0 .opened) _ _ (v .0 .good) _ _ (v .0 .going) _ (c .before .before .infer .ensures .finds) (c .before .if1 .left) (c .if2 .taken))
 
 perform-requires : tie.Need-perform-requires Inv-loop μ-loop
 perform-requires c κs = c .before .before .infer .ensures .chosen (c .before .if1 .left) .acts .rooted
@@ -69,9 +69,8 @@ returns-3 c =
     let n = c .before .before .before .before .before .before .before .before .if1 .left in
     let h = f .chosen n in
     let lt = first-slot _ _ (p .0 .opened) _ (v .0 .good) _ (f .finds .within n) _ _ (h .unpacked) n (f .finds .first-is) _ refl in
-    since-ends _ _ _ _ _ _ _ _ _ (v .0) _ _
-    (advances-closed _ _ (p .0 .opened) _ _ (v .0 .good) _ _ (v .0 .going) _ (f .finds) n _ _ (h .unpacked) _ (h .concerns) _ (answers _ _ (p .0 .opened) _ (v .0 .good) _ _ (f .finds) n _ _ (h .unpacked) _ lt _ (h .acts) _ (c .before .before .before .before .before .before .perform .ensures)) (omega (arith, v .0 .going .within, c .before .before .before .before .before .before .before .if2 .left)) (c .before .before .before .before .if3 .taken) _ (c .before .before .note .ensures))
-    (λ e. absurd (omega (arith, e)))
+    since-ended _ _ _ _ _ _ _ _ _ (v .0) _ refl _
+    (step-closes _ _ (p .0 .opened) _ _ (v .0 .good) _ _ (v .0 .going) _ (f .finds) n _ _ (h .unpacked) _ (h .concerns) _ (answers _ _ (p .0 .opened) _ (v .0 .good) _ _ (f .finds) n _ _ (h .unpacked) _ lt _ (h .acts) _ (c .before .before .before .before .before .before .perform .ensures)) (omega (arith, v .0 .going .within, c .before .before .before .before .before .before .before .if2 .left)) (c .before .before .before .before .if3 .taken) _ (c .before .before .note .ensures))
 
 note-requires-2 : tie.Need-note-requires-2 Inv-loop μ-loop
 note-requires-2 c κs = let g = c .before .before .before .before .before .before .before .before .before .before .before .before .before .before .loop .inv .0 .going in omega (arith, g .within, g .traced, c .before .before .before .before .if2 .left)
@@ -90,7 +89,7 @@ loop-less c =
     let n = c .before .before .before .before .before .before .before .before .before .before .if1 .left in
     let h = f .chosen n in
     let lt = first-slot _ _ (p .0 .opened) _ (v .0 .good) _ (f .finds .within n) _ _ (h .unpacked) n (f .finds .first-is) _ refl in
-    advances-went _ _ (p .0 .opened) _ _ (v .0 .good) _ _ (v .0 .going) _ (f .finds) n _ _ (h .unpacked) _ (h .concerns) _ (answers _ _ (p .0 .opened) _ (v .0 .good) _ _ (f .finds) n _ _ (h .unpacked) _ lt _ (h .acts) _ (c .before .before .before .before .before .before .before .before .perform .ensures)) (omega (arith, v .0 .going .within, c .before .before .before .before .before .before .before .before .before .if2 .left)) (c .before .before .before .before .before .before .if3 .left) _ (c .before .before .before .before .note2 .ensures) .went refl .1
+    step-falls _ _ (p .0 .opened) _ _ (v .0 .good) _ _ (v .0 .going) _ (f .finds) n _ _ (h .unpacked) _ (h .concerns) _ (answers _ _ (p .0 .opened) _ (v .0 .good) _ _ (f .finds) n _ _ (h .unpacked) _ lt _ (h .acts) _ (c .before .before .before .before .before .before .before .before .perform .ensures)) (omega (arith, v .0 .going .within, c .before .before .before .before .before .before .before .before .before .if2 .left)) (c .before .before .before .before .before .before .if3 .left) _ (c .before .before .before .before .note2 .ensures)
 
 loop-again : tie.Need-loop-again Inv-loop μ-loop
 loop-again c =
@@ -100,8 +99,8 @@ loop-again c =
     let n = c .before .before .before .before .before .before .before .before .before .before .if1 .left in
     let h = f .chosen n in
     let lt = first-slot _ _ (p .0 .opened) _ (v .0 .good) _ (f .finds .within n) _ _ (h .unpacked) n (f .finds .first-is) _ refl in
-    let a = advances-went _ _ (p .0 .opened) _ _ (v .0 .good) _ _ (v .0 .going) _ (f .finds) n _ _ (h .unpacked) _ (h .concerns) _ (answers _ _ (p .0 .opened) _ (v .0 .good) _ _ (f .finds) n _ _ (h .unpacked) _ lt _ (h .acts) _ (c .before .before .before .before .before .before .before .before .perform .ensures)) (omega (arith, v .0 .going .within, c .before .before .before .before .before .before .before .before .before .if2 .left)) (c .before .before .before .before .before .before .if3 .left) _ (c .before .before .before .before .note2 .ensures) in
-    (since-again _ _ _ _ _ _ _ _ _ (v .0) _ _ a refl, search needs, next-begins _ _ (p .0 .opened) _ (v .0 .good) _ _ (f .finds) n _ _ (h .unpacked) _ lt _ (h .acts) _ (c .before .before .before .before .before .before .before .before .perform .ensures) (c .before .before .before .before .before .before .if3 .left) _ (c .target .ensures) refl _ _ _ (c .before .later .ensures) (v .2))
+    let a = step-goes _ _ (p .0 .opened) _ _ (v .0 .good) _ _ (v .0 .going) _ (f .finds) n _ _ (h .unpacked) _ (h .concerns) _ (answers _ _ (p .0 .opened) _ (v .0 .good) _ _ (f .finds) n _ _ (h .unpacked) _ lt _ (h .acts) _ (c .before .before .before .before .before .before .before .before .perform .ensures)) (omega (arith, v .0 .going .within, c .before .before .before .before .before .before .before .before .before .if2 .left)) (c .before .before .before .before .before .before .if3 .left) _ (c .before .before .before .before .note2 .ensures) in
+    (since-again _ _ _ _ _ _ _ _ _ (v .0) _ _ _ a, search needs, next-begins _ _ (p .0 .opened) _ (v .0 .good) _ _ (f .finds) n _ _ (h .unpacked) _ lt _ (h .acts) _ (c .before .before .before .before .before .before .before .before .perform .ensures) (c .before .before .before .before .before .before .if3 .left) _ (c .target .ensures) refl _ _ _ (c .before .later .ensures) (v .2))
 
 pub settle-spec : {M : Type 1} → statement M
 settle-spec =
