@@ -8,11 +8,11 @@ use native.Mathlib.Omega.{arith}
 use lib.Dec.{eqb}
 use Rattle.calculus.specs.Terms.{Term, SetVar, term}
 use Rattle.calculus.specs.Lists.{imp, all, any, keep, upFrom, Each, gather}
-use Rattle.calculus.specs.Relations.{Rule, applies, propagation, choice, sound, adds, mapRule, Relation, holdsAt, Operand, Literal, propagationRows, splitRows, negationRow, Negation, unequal, denies, litKnown, rows}
+use Rattle.calculus.specs.Relations.{Rule, applies, propagation, choice, sound, adds, mapRule, Relation, holdsAt, Operand, Literal, propagationRows, splitRows, negationRow, Negation, unequal, denies, litKnown, rows, operandOf}
 use Rattle.calculus.specs.Relations as R
 use Rattle.calculus.specs.Meaning.{Constraint, member, nonmember, same, different, relation, negation, exactly, interval, entries}
 use Rattle.calculus.specs.Branch.{Branch, rootAt, root, inside, outside, Fact, In, Out, Same, known}
-use Rattle.calculus.specs.Search.{Move, operandOf, factOf, at, over, distinct, listing, choose, choosing, propagations, splits, rootsOf}
+use Rattle.calculus.specs.Search.{Move, factOf, at, over, distinct, listing, choose, choosing, propagations, splits, rootsOf}
 use Rattle.calculus.specs.Invariants.{ConstraintIn}
 use Rattle.calculus.proofs.Bools.{and-l, and-r, and-i, or-cases, or-none-l, or-none-r, imp-at, imp-i, clash, test, not-t, not-f, each-all, all-each, all-map, any-map, Each-app, Each-left, Each-right, Each-all, Each-imp, Each-zip, Each-map, map-Each, Each-gather}
 use Rattle.calculus.proofs.Tables.{litTrue, rows-add, negation-add}

@@ -9,7 +9,7 @@ use Rattle.calculus.specs.Terms.{Term, SetVar, term}
 use Rattle.calculus.specs.Meaning.{Constraint, _∈_, Valuation, Holds}
 use Rattle.calculus.specs.Branch.{Branch, start, rootAt, root, inside, outside}
 use Rattle.calculus.specs.Search.{rootsOf}
-use Rattle.calculus.specs.Log.{Event, formed, stepped, log}
+use Rattle.calculus.specs.Run.{Event, formed, stepped, log}
 use Rattle.calculus.specs.Problem.{Problem, constantCount, termCount, setCount, constantTerms, Assignment, values}
 use Rattle.calculus.specs.Forms.{classValue}
 

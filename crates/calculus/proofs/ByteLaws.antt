@@ -10,11 +10,10 @@ use lib.Dec.{leb}
 use Rattle.calculus.specs.Lists.{Each}
 use Rattle.calculus.specs.Branch.{Branch, start, rootAt}
 use Rattle.calculus.specs.Search.{Next, solved, step, next}
-use Rattle.calculus.specs.Log.{Event, formed, stepped, log}
 use Rattle.calculus.specs.Problem.{Problem, termCount, setCount, constantTerms, Valid}
 use Rattle.calculus.specs.Encoding.{Bytes}
 use Rattle.calculus.specs.Forms.{recordFrom, recordOf}
-use Rattle.calculus.specs.Run.{Tally, tally, run}
+use Rattle.calculus.specs.Run.{Event, formed, stepped, log, Tally, tally, run}
 use Rattle.calculus.specs.Reading.{Parsed, parsed, refused}
 use Rattle.calculus.specs.Calls.{over, asked, answered, call}
 use Rattle.calculus.specs.Demands.{Bytewise}

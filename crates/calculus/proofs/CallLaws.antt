@@ -9,6 +9,7 @@ use native.Mathlib.Nat.{le-of-eq, suc-mul, zero-mul}
 use lib.ListN.{length, length-append, take, drop, length-drop}
 use lib.Seq.{take-at, drop-at, take-append-le, drop-append-le}
 use lib.Dec.{leb}
+use lib.IntN.{ℤ}
 use borrow.Author.Tests.{leb-true, leb-false, le-leb, lt-leb, eq-eqb, eqb-true}
 use Rattle.calculus.specs.Terms.{Term}
 use Rattle.calculus.specs.Lists.{Each, Some, here, there, gather, first}
@@ -18,15 +19,14 @@ use Rattle.calculus.specs.Meaning.{Constraint}
 use Rattle.calculus.specs.Branch.{Branch, start, known}
 use Rattle.calculus.specs.Search as Ru
 use Rattle.calculus.specs.Search.{Candidate, Next, solved, step, children, next, places}
-use Rattle.calculus.specs.Log.{Event, formed, stepped, log}
-use Rattle.calculus.specs.Problem.{setCount, Problem, termCount, constantTerms, Assignment, Satisfies, Valid}
-use Rattle.calculus.specs.Run.{Tally, stop, listForm, takeStep, tally, run}
-use Rattle.calculus.specs.Forms.{recordOf, listedForms, AgreesForm, SatisfiesForm}
+use Rattle.calculus.specs.Problem.{setCount, Problem, termCount, constantTerms, Assignment, values, Satisfies, Valid}
+use Rattle.calculus.specs.Run.{Event, formed, stepped, log, Tally, stop, listForm, takeStep, tally, run}
+use Rattle.calculus.specs.Forms.{recordOf, listedForms, Agrees, SatisfiesForm}
 use Rattle.calculus.specs.Run as R
 use Rattle.calculus.specs.Reading.{Parsed, parsed, refused, _>>=_, ask, read}
 use Rattle.calculus.specs.Calls.{Verdict, FORMS, FALSE, SPENT, NOROOM, Answer, refusal, ended, Outcome, verdictOf, over, asked, left, answered, call}
 use Rattle.calculus.specs.Order.{Progress, Works}
-use Rattle.calculus.specs.Demands.{Follows, SameSolutions, Covers, OnlySolutions, Stops, Asks, Kept}
+use Rattle.calculus.specs.Demands.{Follows, SameSolutions, Stops, Kept}
 use Rattle.calculus.proofs.Bools.{Each-all, Each-imp, Each-app}
 use Rattle.calculus.proofs.Solutions.{Some-any, Some-imp, any-witness}
 use Rattle.calculus.proofs.Records.{record-length, run-solutions}
@@ -181,11 +181,14 @@ same-solutions bytes budget forms trace prob e v n c a f g =
     = rw (w .forms-are, sym (w .count-is)) (listed-app (3 * termCount prob) (s .forms) (s .records) (drop (length (s .records)) forms) (records-long (termCount prob) L budget (length forms))) in
     subst (λ (x : List (List ℕ)). Satisfies prob g ↔ Some (SatisfiesForm prob g) x) (sym z) (run-solutions prob acc budget (length forms) d g)
 
-pub covers : Covers
-covers bytes budget forms trace prob e v n c a f g h = Some-imp (SatisfiesForm prob g) (AgreesForm prob g) (λ r s. (s .0, s .1)) _ (same-solutions bytes budget forms trace prob e v n c a f g .0 h)
+-- every solution agrees with a listed record
+pub covers : (bytes : List ℕ) (budget : ℕ) (forms trace : List ℕ) (prob : Problem) → read bytes ≡ parsed prob → (v : Verdict) (n c : ℕ) → call bytes budget forms trace .answer ≡ ended v n c → (v ≡ FORMS) ⊎ (v ≡ FALSE)
+    → (g : Assignment) → Satisfies prob g → Some (λ r. (witness : Term → ℤ) × Agrees (termCount prob) (values prob g witness) r) (listedForms (3 * termCount prob) c (call bytes budget forms trace .forms))
+covers bytes budget forms trace prob e v n c a f g h = Some-imp (SatisfiesForm prob g) (λ r. (witness : Term → ℤ) × Agrees (termCount prob) (values prob g witness) r) (λ r s. (s .0, s .1)) _ (same-solutions bytes budget forms trace prob e v n c a f g .0 h)
 
-pub only-solutions : OnlySolutions
-only-solutions bytes prob e g rs s = Some-any (SatisfiesForm prob g) (Satisfies prob g) (λ r h. any-witness prob (read-valid bytes prob e) g (h .0) (h .2)) rs s
+-- what satisfies a record is a solution
+pub only-solutions : (prob : Problem) → Valid prob → (g : Assignment) (rs : List (List ℕ)) → Some (SatisfiesForm prob g) rs → Satisfies prob g
+only-solutions prob acc g rs s = Some-any (SatisfiesForm prob g) (Satisfies prob g) (λ r h. any-witness prob acc g (h .0) (h .2)) rs s
 
 pub follows : Follows
 unfolding run
@@ -228,7 +231,13 @@ stops bytes budget forms trace prob e n c =
       (λ a. let w = was bytes budget forms trace prob e NOROOM n c a in subst (λ (x : ℕ). length forms < suc x * (3 * termCount prob)) (w .count-is) (room-full (termCount prob) L budget (length forms) (of-noroom (s .end) (s .forms) (w .verdict-is)))),
     )
 
-pub asks : Asks
+-- 12 and 13 are asked after the problem's questions
+pub asks : (bytes : List ℕ) (budget room : ℕ) →
+    ((n : ℕ) → read bytes ≡ refused n → asked bytes budget room ≡ refused n)
+    × ((prob : Problem) → read bytes ≡ parsed prob →
+    (10000 < budget → asked bytes budget room ≡ refused 12)
+    × (budget ≤ 10000 → room < 4 * budget → asked bytes budget room ≡ refused 13)
+    × (budget ≤ 10000 → 4 * budget ≤ room → asked bytes budget room ≡ parsed prob))
 unfolding asked _>>=_ ask
 asks bytes budget room = (
   (λ n q. rw q),

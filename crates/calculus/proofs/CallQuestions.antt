@@ -16,7 +16,7 @@ use Rattle.calculus.specs.Calls.{asked, Checked, declined, found, check}
 use Rattle.calculus.specs.Demands.{Refusals}
 use Rattle.calculus.proofs.ReadsWritten.{reads}
 use Rattle.calculus.proofs.Questions.{questions}
-use Rattle.calculus.proofs.CallLaws.{asks}
+use Rattle.calculus.proofs.CallLaws.{asks, asked-parsed}
 use Rattle.calculus.proofs.ReadAssignment.{reads-assignment}
 use Rattle.calculus.proofs.Checking.{checks}
 
@@ -88,4 +88,11 @@ module _ (bytes : List ℕ) (is : Bytes bytes) where
         go (refused m) q = q ∙ ap refused (reads-assignment prob assignment are .1 m q)
 
 pub refusals : Refusals
-refusals bytes is n = ((λ budget room. (run-says bytes is budget room n, run-does bytes is budget room n)), λ assignment are. (check-says bytes is assignment are n, check-does bytes is assignment are n))
+refusals bytes is = (
+  (λ budget room n. (run-says bytes is budget room n, run-does bytes is budget room n)),
+  (λ budget room prob. (
+    (λ e. let a = asked-parsed bytes budget room prob e in (reads bytes is prob .0 (a .0), a .1, a .2)),
+    (λ w. asks bytes budget room .1 prob (reads bytes is prob .1 (w .0)) .2 (w .1) (w .2)),
+  )),
+  (λ assignment are n. (check-says bytes is assignment are n, check-does bytes is assignment are n)),
+)

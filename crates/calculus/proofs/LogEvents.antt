@@ -7,7 +7,7 @@ use Rattle.calculus.specs.Terms.{Term}
 use Rattle.calculus.specs.Meaning.{Constraint}
 use Rattle.calculus.specs.Branch.{Branch}
 use Rattle.calculus.specs.Search.{Next, solved, step, next}
-use Rattle.calculus.specs.Log.{Event, formed, stepped, log}
+use Rattle.calculus.specs.Run.{Event, formed, stepped, log}
 use Rattle.calculus.proofs.Bools.{Each-app}
 use Rattle.calculus.proofs.BranchForms.{formsOf}
 

@@ -12,10 +12,10 @@ use borrow.Author.Tests.{eqb-true, eq-eqb}
 use Rattle.calculus.specs.Terms.{Term, SetVar}
 use Rattle.calculus.specs.Lists.{bit, upFrom, first, Each, Some, here, there, gather}
 use Rattle.calculus.specs.Meaning.{Constraint, member, nonmember, same, different, relation, negation, exactly, interval, entries, Valuation}
-use Rattle.calculus.specs.Relations.{Rule, Literal, Operand, propagationRows, splitRows}
+use Rattle.calculus.specs.Relations.{Rule, Literal, Operand, propagationRows, splitRows, operandOf}
 use Rattle.calculus.specs.Branch.{Branch, start, rootAt, inside, outside, Fact, In, Out, Same, known}
-use Rattle.calculus.specs.Search.{Move, operandOf, over, propagations, splits, places, rootsOf, candidates, Candidate, Next, solved, step, next}
-use Rattle.calculus.specs.Log.{Event, formed, stepped, log}
+use Rattle.calculus.specs.Search.{Move, over, propagations, splits, places, rootsOf, candidates, Candidate, Next, solved, step, next}
+use Rattle.calculus.specs.Run.{Event, formed, stepped, log}
 use Rattle.calculus.specs.Invariants.{ConstraintIn}
 use Rattle.calculus.proofs.BranchForms.{formsOf}
 use Rattle.calculus.proofs.Bools.{clash, Each-app, Each-imp, Each-zip}

@@ -18,10 +18,9 @@ use Rattle.calculus.specs.Lists.{bit, keep, Each, Some, here, there, gat
 use Rattle.calculus.specs.Meaning.{Constraint, Valuation, Holds}
 use Rattle.calculus.specs.Branch.{Branch, start, rootAt, root, inside, outside, Fact, assert}
 use Rattle.calculus.specs.Search.{Next, solved, step, next, rootsOf}
-use Rattle.calculus.specs.Log.{Event, formed, stepped, log}
 use Rattle.calculus.specs.Problem.{Problem, constantCount, termCount, setCount, constantTerms, Assignment, values, Satisfies, Valid}
 use Rattle.calculus.proofs.BranchForms.{formsOf, problemForms, AgreesBranch, branchNumber, branchModel}
-use Rattle.calculus.specs.Run.{Tally, tally, run}
+use Rattle.calculus.specs.Run.{Event, formed, stepped, log, Tally, tally, run}
 use Rattle.calculus.specs.Run as R
 use Rattle.calculus.specs.Forms.{recordFrom, recordOf, listedForms, Agrees, SatisfiesForm, recordRoot, classValue, modelNumber, model}
 use Rattle.calculus.specs.Reading.{parsed, read}

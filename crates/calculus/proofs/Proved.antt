@@ -3,7 +3,7 @@ use Rattle.calculus.specs.Demands.{Demands}
 use Rattle.calculus.proofs.ReadsWritten.{reads}
 use Rattle.calculus.proofs.Questions.{questions}
 use Rattle.calculus.proofs.Refuses.{refuses}
-use Rattle.calculus.proofs.CallLaws.{asks, kept, follows, stops, same-solutions, covers, only-solutions}
+use Rattle.calculus.proofs.CallLaws.{kept, follows, stops, same-solutions}
 use Rattle.calculus.proofs.CallQuestions.{refusals}
 use Rattle.calculus.proofs.ByteLaws.{bytewise}
 use Rattle.calculus.proofs.AnswerLaws.{answers}
@@ -24,7 +24,6 @@ demands = record {
   reads = reads;
   questions = questions;
   refuses = refuses;
-  asks = asks;
   refusals = refusals;
   kept = kept;
   bytewise = bytewise;
@@ -42,8 +41,6 @@ demands = record {
   verdicts = verdicts;
   stops = stops;
   same-solutions = same-solutions;
-  covers = covers;
-  only-solutions = only-solutions;
   short-paths = short-paths;
   reads-assignment = reads-assignment;
   checks = checks;

@@ -13,10 +13,9 @@ use Rattle.calculus.specs.Lists.{bit, Each, Some, here, there, gather}
 use Rattle.calculus.specs.Meaning.{_∈_, Valuation, Holds}
 use Rattle.calculus.specs.Branch.{Branch, start, rootAt, inside, outside}
 use Rattle.calculus.specs.Terms.{term}
-use Rattle.calculus.specs.Log.{Event, formed, stepped, log}
 use Rattle.calculus.specs.Problem.{Problem, termCount, setCount, constantTerms, Assignment, values, Satisfies, Valid}
 use Rattle.calculus.specs.Forms.{recordFrom, recordOf, listedForms, Agrees, SatisfiesForm}
-use Rattle.calculus.specs.Run.{End, DONE, NOROOM, Tally, tally, run}
+use Rattle.calculus.specs.Run.{Event, formed, stepped, log, End, DONE, NOROOM, Tally, tally, run}
 use Rattle.calculus.proofs.BranchForms.{formsOf, problemForms, AgreesBranch, SatisfiesBranch}
 use Rattle.calculus.proofs.Solutions.{solutions}
 

@@ -10,10 +10,10 @@ use lib.Dec.{eqb}
 use borrow.Author.Tests.{eqb-true, eq-eqb}
 use Rattle.calculus.specs.Lists.{keep, upFrom, Each}
 use Rattle.calculus.specs.Terms.{Term, SetVar, term}
-use Rattle.calculus.specs.Relations.{Rule, propagation, Relation, equal, union, disjoint, subset, intersection, unequal, Operand, Literal, propagationRows, splitRows, negationRow}
+use Rattle.calculus.specs.Relations.{Rule, propagation, Relation, equal, union, disjoint, subset, intersection, unequal, Operand, Literal, propagationRows, splitRows, negationRow, operandOf}
 use Rattle.calculus.specs.Meaning.{Constraint, member, nonmember, same, different, relation, negation, exactly, interval, entries}
 use Rattle.calculus.specs.Branch.{Branch, rootAt, root, Fact, In, Out, Same}
-use Rattle.calculus.specs.Search.{Move, operandOf, at, over, distinct, listing, choose, propagations, splits, rootsOf}
+use Rattle.calculus.specs.Search.{Move, at, over, distinct, listing, choose, propagations, splits, rootsOf}
 use Rattle.calculus.specs.Order.{OneClass, Place, Root, Fires, rule1, rule2, rule3, rule4, rule5, rule6, rule7, rule8, rule9, rule10, rule11, rule12, rule13, rule14, rule15, rule16, rule17, rule18, rule19, rule20, rule19′, rule20′}
 use Rattle.calculus.proofs.ChildrenLeft.{classes}
 use Rattle.calculus.proofs.Enumerating.{Where, candidate, Placed, before-rule, Enum, enum-nil, enum-join, Yes, Ready, Lists, lists-iff, Spot, Run, spots}

@@ -9,10 +9,10 @@ use lib.Dec.{leb}
 use borrow.Author.Tests.{leb-true}
 use Rattle.calculus.specs.Lists.{all, Each, gather}
 use Rattle.calculus.specs.Terms.{Term, SetVar}
-use Rattle.calculus.specs.Relations.{Rule, propagation, Relation, equal, union, disjoint, subset, intersection, Negation, unequal, Operand, Literal, propagationRows, splitRows, negationRow, rows}
+use Rattle.calculus.specs.Relations.{Rule, propagation, Relation, equal, union, disjoint, subset, intersection, Negation, unequal, Operand, Literal, propagationRows, splitRows, negationRow, rows, operandOf}
 use Rattle.calculus.specs.Meaning.{Constraint, member, nonmember, same, different, relation, negation, exactly, interval, entries}
 use Rattle.calculus.specs.Branch.{Branch, rootAt, root, Fact, In, Out, Same, assertAll}
-use Rattle.calculus.specs.Search.{Move, operandOf, factOf, at, over, distinct, listing, choose, choosing, propagations, splits, rootsOf, Candidate, candidates, places, Next, solved, step, children, next}
+use Rattle.calculus.specs.Search.{Move, factOf, at, over, distinct, listing, choose, choosing, propagations, splits, rootsOf, Candidate, candidates, places, Next, solved, step, children, next}
 use Rattle.calculus.specs.Invariants.{ConstraintIn}
 use Rattle.calculus.proofs.Bools.{and-l, and-r, each-all, Each-app, Each-imp, Each-map, Each-gather}
 use Rattle.calculus.proofs.Asserting.{WellFormed, below}

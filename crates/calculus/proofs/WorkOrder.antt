@@ -13,9 +13,8 @@ use Rattle.calculus.specs.Terms.{Term}
 use Rattle.calculus.specs.Lists.{Each, Some, here, there, gather}
 use Rattle.calculus.specs.Branch.{Branch, start}
 use Rattle.calculus.specs.Search.{Next, solved, step, next}
-use Rattle.calculus.specs.Log.{Event, formed, stepped, log}
 use Rattle.calculus.specs.Problem.{setCount, Problem, termCount, constantTerms, Valid}
-use Rattle.calculus.specs.Run.{Tally, stop, listForm, takeStep, tally, nextOf, run}
+use Rattle.calculus.specs.Run.{Event, formed, stepped, log, Tally, stop, listForm, takeStep, tally, nextOf, run}
 use Rattle.calculus.specs.Forms.{recordOf}
 use Rattle.calculus.specs.Run as R
 use Rattle.calculus.specs.Reading.{parsed, read}

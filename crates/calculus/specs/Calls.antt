@@ -1,5 +1,4 @@
 -- The two calls: what is handed in, what is answered, and the lent buffers as they are left.
-use mathlib.Core.Bool.{Bool, true, false}
 use mathlib.Core.Option.{Option, none, some}
 use mathlib.Core.List.{List, [], _∷_, _++_}
 use Prim.Native.Nat.{ℕ, zero, suc, _+_, _*_}

@@ -1,22 +1,22 @@
 -- What the customer holds the two calls to. The statements about calls are over bytes, budgets and lent buffers, whatever they are; the others are about the definitions that these use.
-use mathlib.Core.Path.{_≡_, refl}
+use mathlib.Core.Path.{_≡_}
 use mathlib.Core.Logic.{_↔_, _⊎_}
-use mathlib.Core.Bool.{Bool, true, false}
+use mathlib.Core.Bool.{true}
 use mathlib.Core.Option.{Option, none, some}
-use mathlib.Core.List.{List, [], _∷_, _++_, map}
+use mathlib.Core.List.{List, [], _∷_, _++_}
 use Prim.Native.Nat.{ℕ, zero, suc, _+_, _*_, _/_, _%_, _^_, _≤_, _<_}
 use lib.ListN.{length, getD, take, drop}
 use lib.IntN.{ℤ, pos}
 use Rattle.calculus.specs.Lists.{Each, Some, picked, bit}
 use Rattle.calculus.specs.Terms.{Term, SetVar, term, setVar}
-use Rattle.calculus.specs.Meaning.{Constraint, member, _∈_, Valuation, Holds}
+use Rattle.calculus.specs.Meaning.{member, _∈_, Valuation, Holds}
 use Rattle.calculus.specs.Problem.{Problem, constantCount, termCount, setCount, constantTerms, Assignment, values, Satisfies}
 use Rattle.calculus.specs.Encoding.{Bytes, Written, Handed, encodeHanded, WrittenAssignment}
-use Rattle.calculus.specs.Reading.{Parsed, parsed, refused, read}
+use Rattle.calculus.specs.Reading.{parsed, refused, read}
 use Rattle.calculus.specs.Questions.{FirstNoOfRun, FirstNoOfCheck, Questions}
 use Rattle.calculus.specs.Branch.{Branch, start, rootAt, Fact, known, assert, assertAll}
-use Rattle.calculus.specs.Search.{distinct, Next, solved, step}
-use Rattle.calculus.specs.Forms.{recordOf, listedForms, Agrees, AgreesForm, SatisfiesForm, modelNumber, model, handedModel}
+use Rattle.calculus.specs.Search.{distinct, solved, step}
+use Rattle.calculus.specs.Forms.{recordOf, listedForms, Agrees, SatisfiesForm, modelNumber, model, handedModel}
 use Rattle.calculus.specs.Run.{nextOf}
 use Rattle.calculus.specs.Check.{readAssignment, assignmentOf}
 use Rattle.calculus.specs.Calls.{Verdict, FORMS, FALSE, SPENT, NOROOM, Answer, refusal, ended, asked, call, answerNumber, answerWord, Checked, declined, HOLDS, FAILS, check, checkedNumber, checkWord}
@@ -37,20 +37,12 @@ Refuses = (bytes : List ℕ) →
     ((k : ℕ) → k < length bytes → read (take k bytes) ≡ refused 2)
     × ((x : ℕ) (more : List ℕ) → length (bytes ++ (x ∷ more)) ≤ 4096 → read (bytes ++ (x ∷ more)) ≡ refused 10))
 
--- A run asks 12 and 13 after the problem's questions.
-abbrev pub Asks : Type 0
-Asks = (bytes : List ℕ) (budget room : ℕ) →
-    ((n : ℕ) → read bytes ≡ refused n → asked bytes budget room ≡ refused n)
-    × ((prob : Problem) → read bytes ≡ parsed prob →
-    (10000 < budget → asked bytes budget room ≡ refused 12)
-    × (budget ≤ 10000 → room < 4 * budget → asked bytes budget room ≡ refused 13)
-    × (budget ≤ 10000 → 4 * budget ≤ room → asked bytes budget room ≡ parsed prob))
-
--- A call is refused with the number of the first of its questions that is answered "no".
+-- A call is refused with the number of the first of its questions that is answered "no"; a run that is not refused is of the problem that is written.
 abbrev pub Refusals : Type 0
-Refusals = (bytes : List ℕ) → Bytes bytes → (n : ℕ) →
-    ((budget room : ℕ) → (asked bytes budget room ≡ refused n) ↔ FirstNoOfRun bytes budget room n)
-    × ((assignment : List ℕ) → Bytes assignment → (check bytes assignment ≡ declined n) ↔ FirstNoOfCheck bytes assignment n)
+Refusals = (bytes : List ℕ) → Bytes bytes →
+    ((budget room n : ℕ) → (asked bytes budget room ≡ refused n) ↔ FirstNoOfRun bytes budget room n)
+    × ((budget room : ℕ) (prob : Problem) → (asked bytes budget room ≡ parsed prob) ↔ (Written bytes prob × (budget ≤ 10000) × (4 * budget ≤ room)))
+    × ((assignment : List ℕ) → Bytes assignment → (n : ℕ) → (check bytes assignment ≡ declined n) ↔ FirstNoOfCheck bytes assignment n)
 
 -- A refusal writes nothing; otherwise what is written stays inside, and later bytes stay as they were.
 abbrev pub Kept : Type 0
@@ -181,15 +173,6 @@ SameSolutions = (bytes : List ℕ) (budget : ℕ) (forms trace : List ℕ) (prob
     (v : Verdict) (n c : ℕ) → call bytes budget forms trace .answer ≡ ended v n c → (v ≡ FORMS) ⊎ (v ≡ FALSE) →
     (g : Assignment) → Satisfies prob g ↔ Some (SatisfiesForm prob g) (listedForms (3 * termCount prob) c (call bytes budget forms trace .forms))
 
--- Its two halves: every solution agrees with a listed record, and (in any run, however it ended) whatever satisfies a listed record is a solution.
-abbrev pub Covers : Type 0
-Covers = (bytes : List ℕ) (budget : ℕ) (forms trace : List ℕ) (prob : Problem) → read bytes ≡ parsed prob →
-    (v : Verdict) (n c : ℕ) → call bytes budget forms trace .answer ≡ ended v n c → (v ≡ FORMS) ⊎ (v ≡ FALSE) →
-    (g : Assignment) → Satisfies prob g → Some (AgreesForm prob g) (listedForms (3 * termCount prob) c (call bytes budget forms trace .forms))
-
-abbrev pub OnlySolutions : Type 0
-OnlySolutions = (bytes : List ℕ) (prob : Problem) → read bytes ≡ parsed prob → (g : Assignment) (rs : List (List ℕ)) → Some (SatisfiesForm prob g) rs → Satisfies prob g
-
 -- No path is longer than terms × (sets + 1), a step that closes its end included. (Of a call's own paths: the last part of Follows.)
 abbrev pub ShortPaths : Type 0
 ShortPaths = (bytes : List ℕ) (prob : Problem) → read bytes ≡ parsed prob → (d : ℕ) (b : Branch) → PathTo prob d b →
@@ -226,7 +209,6 @@ pub record Demands : Type 0 where
   pub reads : Reads
   pub questions : Questions
   pub refuses : Refuses
-  pub asks : Asks
   pub refusals : Refusals
   pub kept : Kept
   pub bytewise : Bytewise
@@ -244,8 +226,6 @@ pub record Demands : Type 0 where
   pub verdicts : Verdicts
   pub stops : Stops
   pub same-solutions : SameSolutions
-  pub covers : Covers
-  pub only-solutions : OnlySolutions
   pub short-paths : ShortPaths
   pub reads-assignment : ReadsAssignment
   pub checks : Checks

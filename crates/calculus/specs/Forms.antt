@@ -33,10 +33,6 @@ pub record Agrees (n : ℕ) (v : Valuation) (r : List ℕ) : Type 0 where
   pub insides : (t : ℕ) (A : SetVar) → t < n → bit (getD r (3 * t + 1) 0) (A .index) ≡ true → v .num (term t) ∈ v .members A
   pub outsides : (t : ℕ) (A : SetVar) → t < n → bit (getD r (3 * t + 2) 0) (A .index) ≡ true → ¬ (v .num (term t) ∈ v .members A)
 
--- an assignment agrees with a record: with some whole number for each witness
-abbrev pub AgreesForm : Problem → Assignment → List ℕ → Type 0
-AgreesForm prob g r = (witness : Term → ℤ) × Agrees (termCount prob) (values prob g witness) r
-
 -- As a statement a form is its merges, its facts and the problem's constraints: the assignment satisfies it if, with some whole number for each witness, all are true.
 abbrev pub SatisfiesForm : Problem → Assignment → List ℕ → Type 0
 SatisfiesForm prob g r = (witness : Term → ℤ) × Agrees (termCount prob) (values prob g witness) r × Each (Holds (values prob g witness)) (prob .constraints)

@@ -8,7 +8,6 @@ pub mod Reading
 pub mod Questions
 pub mod Branch
 pub mod Search
-pub mod Log
 pub mod Forms
 pub mod Run
 pub mod Check

@@ -63,12 +63,9 @@ operandTable n =
     ∷ (aTerm ∷ aTerm ∷ []) ∷ (aTerm ∷ aTerm ∷ [])
     ∷ (aSet ∷ aSet ∷ []) ∷ (aSet ∷ aSet ∷ [])
     ∷ (aSet ∷ aSet ∷ aSet ∷ [])
-    ∷ (aSet ∷ aSet ∷ [])
-    ∷ (aSet ∷ aSet ∷ [])
+    ∷ (aSet ∷ aSet ∷ []) ∷ (aSet ∷ aSet ∷ [])
     ∷ (aSet ∷ aSet ∷ aSet ∷ [])
-    ∷ (aSet ∷ aCount ∷ replicate n aTerm)
-    ∷ (aSet ∷ aTerm ∷ aTerm ∷ [])
-    ∷ []
+    ∷ (aSet ∷ aCount ∷ replicate n aTerm) ∷ (aSet ∷ aTerm ∷ aTerm ∷ []) ∷ []
 
 -- the operands of kind k where bs follows it: the count of kind 11 is its second operand; a byte that is no kind has none
 abbrev pub operands : ℕ → List ℕ → List Sort

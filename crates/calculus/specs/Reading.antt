@@ -126,19 +126,13 @@ module _ (cs : List ℤ) (N S : ℕ) where
   abbrev pub kinds : ℕ → List Parser
   kinds w =
       refuse 7
-      ∷ ofTermSet member
-      ∷ ofTermSet nonmember
-      ∷ ofTerms same
-      ∷ ofTerms different
-      ∷ ofSets (λ A B. relation equal A B A)
-      ∷ ofSets (λ A B. negation unequal A B A (term w))
+      ∷ ofTermSet member ∷ ofTermSet nonmember
+      ∷ ofTerms same ∷ ofTerms different
+      ∷ ofSets (λ A B. relation equal A B A) ∷ ofSets (λ A B. negation unequal A B A (term w))
       ∷ three (relation union)
-      ∷ ofSets (λ A B. relation disjoint A B A)
-      ∷ ofSets (λ A B. relation subset A B A)
+      ∷ ofSets (λ A B. relation disjoint A B A) ∷ ofSets (λ A B. relation subset A B A)
       ∷ three (relation intersection)
-      ∷ ofList
-      ∷ ofInterval
-      ∷ []
+      ∷ ofList ∷ ofInterval ∷ []
 
   abbrev pub constraint : ℕ → Parser
   constraint w bs = do

@@ -56,10 +56,10 @@ pub data Literal : Type 0 where
 
 -- a value for each operand
 module _ {X : Type 0} where
-  abbrev pub by : X → X → X → Operand → X
-  by x y z A = x
-  by x y z B = y
-  by x y z C = z
+  abbrev pub operandOf : X → X → X → Operand → X
+  operandOf x y z A = x
+  operandOf x y z B = y
+  operandOf x y z C = z
 
 -- whether a literal is known of a class that is known in and out of operands
 abbrev pub litKnown : (inside outside : Operand → Bool) → Literal → Bool

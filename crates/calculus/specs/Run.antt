@@ -1,14 +1,30 @@
--- A run: what a budget and a form buffer leave of the search.
-use mathlib.Core.Bool.{Bool, true, false, cond}
-use mathlib.Core.List.{List, [], _∷_, _++_, map}
-use Prim.Native.Nat.{ℕ, zero, suc, _+_, _-_, _*_}
+-- A run: the whole search, and what a budget and a form buffer leave of it.
+use mathlib.Core.Bool.{cond}
+use mathlib.Core.List.{List, [], _∷_, _++_}
+use Prim.Native.Nat.{ℕ, zero, suc, _-_, _*_}
 use lib.ListN.{length}
 use lib.Dec.{leb}
+use Rattle.calculus.specs.Lists.{gather}
+use Rattle.calculus.specs.Terms.{Term}
+use Rattle.calculus.specs.Meaning.{Constraint}
 use Rattle.calculus.specs.Branch.{Branch, start}
-use Rattle.calculus.specs.Search.{Next, next}
-use Rattle.calculus.specs.Log.{Event, formed, stepped, log}
+use Rattle.calculus.specs.Search.{Next, solved, step, next}
 use Rattle.calculus.specs.Problem.{Problem, termCount, setCount, constantTerms}
 use Rattle.calculus.specs.Forms.{recordOf}
+
+-- what happens, one after the other, depth first: a branch is a solved form, or a step is taken
+pub data Event : Type 0 where
+  formed : Branch → Event
+  stepped : List ℕ → Event
+
+module _ (n : ℕ) (constants : List Term) (ls : List Constraint) where
+  -- each child is worked as a branch before the next. The fuel bounds the length of a path; it never runs out (Demands, Follows)
+  abbrev pub log : ℕ → Branch → List Event
+  log zero b = formed b ∷ []
+  log (suc fuel) b = elim (next n constants ls b) [
+    | solved ↦ formed b ∷ []
+    | step r cs ↦ stepped r ∷ gather (log fuel) cs
+  ]
 
 -- with no branch left, or stopped
 pub data End : Type 0 where

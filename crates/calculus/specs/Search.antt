@@ -7,7 +7,7 @@ use lib.ListN.{length}
 use lib.Dec.{eqb}
 use Rattle.calculus.specs.Lists.{keep, first, gather, picked}
 use Rattle.calculus.specs.Terms.{Term, SetVar, termsFrom}
-use Rattle.calculus.specs.Relations.{Rule, applies, propagation, mapRule, Operand, Literal, propagationRows, splitRows, negationRow}
+use Rattle.calculus.specs.Relations.{Rule, applies, propagation, mapRule, Operand, operandOf, Literal, propagationRows, splitRows, negationRow}
 use Rattle.calculus.specs.Relations as R
 use Rattle.calculus.specs.Meaning.{Constraint, member, nonmember, same, different, relation, negation, exactly, interval, entries}
 use Rattle.calculus.specs.Branch.{Branch, rootAt, root, Fact, In, Out, Same, known, assertAll}
@@ -16,12 +16,7 @@ use Rattle.calculus.specs.Branch.{Branch, rootAt, root, Fact, In, Out, S
 abbrev pub Move : Type 0
 Move = Rule Fact
 
--- the set at an operand, and a literal as a fact of a term
-abbrev pub operandOf : SetVar → SetVar → SetVar → Operand → SetVar
-operandOf a b c R.A = a
-operandOf a b c R.B = b
-operandOf a b c R.C = c
-
+-- a literal as a fact of a term, with a set at each operand
 abbrev pub factOf : Term → (Operand → SetVar) → Literal → Fact
 factOf h s (R.In p) = In h (s p)
 factOf h s (R.Out p) = Out h (s p)

@@ -9,10 +9,10 @@ use lib.ListN.{getD}
 use lib.Dec.{eqb}
 use Rattle.calculus.specs.Lists.{Each, first}
 use Rattle.calculus.specs.Terms.{Term, SetVar, term, termsFrom}
-use Rattle.calculus.specs.Relations.{Rule, applies, propagation, Operand, Literal, propagationRows, splitRows}
+use Rattle.calculus.specs.Relations.{Rule, applies, propagation, Operand, Literal, propagationRows, splitRows, operandOf}
 use Rattle.calculus.specs.Meaning.{Constraint, member, nonmember, same, different, relation, negation, exactly, interval, entries}
 use Rattle.calculus.specs.Branch.{Branch, rootAt, root, In, known}
-use Rattle.calculus.specs.Search.{Move, operandOf, at, over, choose, rootsOf, Candidate, candidates}
+use Rattle.calculus.specs.Search.{Move, at, over, choose, rootsOf, Candidate, candidates}
 use Rattle.calculus.specs.Invariants.{Falls, ConstraintIn}
 use Rattle.calculus.proofs.Bools.{first-some, Each-app, Each-all, Each-imp, Each-map, Each-gather}
 use Rattle.calculus.proofs.Sequences.{keep-each, terms-each}

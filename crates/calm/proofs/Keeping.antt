@@ -9,11 +9,11 @@ use lib.Dec.{eqb}
 use borrow.Author.Tests.{eqb-true, eq-eqb}
 use Rattle.calculus.specs.Lists.{Each, bit}
 use Rattle.calculus.specs.Terms.{Term, SetVar, term, termsFrom}
-use Rattle.calculus.specs.Relations.{Rule, applies, propagation, Operand, Literal, propagationRows}
+use Rattle.calculus.specs.Relations.{Rule, applies, propagation, Operand, Literal, propagationRows, operandOf}
 use Rattle.calculus.specs.Relations as R
 use Rattle.calculus.specs.Meaning.{Constraint, member, nonmember, same, different, relation, negation, exactly, interval, entries}
 use Rattle.calculus.specs.Branch.{Branch, walk, rootAt, root, inside, outside, In, Out, Same, known}
-use Rattle.calculus.specs.Search.{Move, operandOf, factOf, at, over, rootsOf}
+use Rattle.calculus.specs.Search.{Move, factOf, at, over, rootsOf}
 use Rattle.calculus.specs.Invariants.{Falls}
 use Rattle.calculus.proofs.Bools.{same-test, Each-imp, Each-map, map-Each, Each-gather, gather-Each}
 use Rattle.calculus.proofs.Sequences.{keep-each, keep-at}

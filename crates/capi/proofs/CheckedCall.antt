@@ -58,7 +58,7 @@ module _ (bytes assignment : List ℕ) (is : Bytes bytes) (are : Bytes assignmen
   contract = record {
     bytewise = (is, are);
     determined = refl;
-    refusals = λ n. ((λ q. refusals bytes is n .1 assignment are .0 (refused-at n q (check bytes assignment) refl)), λ x. declined-word n (refusals bytes is n .1 assignment are .1 x));
+    refusals = λ n. ((λ q. refusals bytes is .2 assignment are n .0 (refused-at n q (check bytes assignment) refl)), λ x. declined-word n (refusals bytes is .2 assignment are n .1 x));
     holds = ((λ q. says q (check bytes assignment) refl), said);
     fails = λ i. ((λ q. named i q (check bytes assignment) refl), naming i);
     nothing-else = (one-of (check bytes assignment) refl, (λ q. no-number q (check bytes assignment) refl), counts (check bytes assignment) refl .0, counts (check bytes assignment) refl .1);

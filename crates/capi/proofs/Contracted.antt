@@ -6,12 +6,14 @@ use Prim.Native.Nat.{ℕ, suc, _*_, _≤_}
 use native.Mathlib.Nat.{zero-mul}
 use native.Mathlib.Omega.{arith}
 use lib.ListN.{length, take, drop}
+use lib.IntN.{ℤ}
+use Rattle.calculus.specs.Terms.{Term}
 use Rattle.calculus.specs.Lists.{Each, Some}
 use Rattle.calculus.specs.Branch.{start}
 use Rattle.calculus.specs.Problem.{Problem, termCount, setCount, Assignment, values, Satisfies}
 use Rattle.calculus.specs.Encoding.{Bytes, Written}
 use Rattle.calculus.specs.Reading.{Parsed, parsed, refused, read}
-use Rattle.calculus.specs.Forms.{listedForms, Agrees, AgreesForm, SatisfiesForm, modelNumber, model}
+use Rattle.calculus.specs.Forms.{listedForms, Agrees, SatisfiesForm, modelNumber, model}
 use Rattle.calculus.specs.Calls.{Verdict, FORMS, FALSE, SPENT, NOROOM, Answer, refusal, ended, Outcome, asked, call, answered, answerWord, answerNumber, verdictNumber}
 use Rattle.calculus.specs.Order.{Progress, unbegun, Works}
 use Rattle.calculus.specs.Demands.{Shape, Valued, Unpacks}
@@ -165,7 +167,7 @@ module _ (bytes : List ℕ) (budget : ℕ) (forms trace : List ℕ) where
     contract = record {
       bytewise = is;
       determined = (refl, refl, refl);
-      refusals = λ n. ((λ q. refusals bytes is n .0 budget (length trace) .0 (refusal-at n q answer refl)), λ x. refused-so n (refusals bytes is n .0 budget (length trace) .1 x));
+      refusals = λ n. ((λ q. refusals bytes is .0 budget (length trace) n .0 (refusal-at n q answer refl)), λ x. refused-so n (refusals bytes is .0 budget (length trace) n .1 x));
       untouched = λ q. untouched-at q answer refl;
       unnumbered = λ q. unnumbered-at q answer refl;
       inside = let s = stays answer refl in (s .few, s .room, λ prob w. s .leaves prob w .fit);
@@ -174,7 +176,7 @@ module _ (bytes : List ℕ) (budget : ℕ) (forms trace : List ℕ) where
       no-false-alarm = λ q. false-at q answer refl;
       same-solutions = λ q. same-at q answer refl;
       covers = λ q prob w g h. covers-at q prob (reads bytes is prob .1 w) g h answer refl;
-      only-solutions = λ prob w g s. only-solutions bytes prob (reads bytes is prob .1 w) g _ s;
+      only-solutions = λ prob w g s. only-solutions prob (w .valid) g _ s;
       order-of-work = λ q. order-at q answer refl;
       short-paths = short;
     }
@@ -220,7 +222,7 @@ module _ (bytes : List ℕ) (budget : ℕ) (forms trace : List ℕ) where
         not-refused (inl q) n e = omega (arith, q, refused-word n e .0)
         not-refused (inr q) n e = omega (arith, q, refused-word n e .0)
 
-        covers-at : Finished word → (prob : Problem) → read bytes ≡ parsed prob → (g : Assignment) → Satisfies prob g → (a : Answer) → answer ≡ a → Some (AgreesForm prob g) (listedIn prob word (after .forms))
+        covers-at : Finished word → (prob : Problem) → read bytes ≡ parsed prob → (g : Assignment) → Satisfies prob g → (a : Answer) → answer ≡ a → Some (λ r. (witness : Term → ℤ) × Agrees (termCount prob) (values prob g witness) r) (listedIn prob word (after .forms))
         covers-at q prob r g h (refusal n) e = absurd (not-refused q n e)
         covers-at q prob r g h (ended v n c) e = rw (ended-word v n c e .2) (covers bytes budget forms trace prob r v n c e (ends q v n c e) g h)
 

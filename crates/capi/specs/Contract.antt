@@ -4,15 +4,15 @@ use mathlib.Core.Logic.{_↔_, _⊎_}
 use mathlib.Core.List.{List, [], _∷_}
 use Prim.Native.Nat.{ℕ, suc, _*_, _/_, _%_, _≤_, _<_}
 use lib.ListN.{length, getD, take, drop}
-use lib.IntN.{pos}
+use lib.IntN.{ℤ, pos}
 use Rattle.calculus.specs.Lists.{Each, Some}
-use Rattle.calculus.specs.Terms.{term, setVar}
+use Rattle.calculus.specs.Terms.{Term, term, setVar}
 use Rattle.calculus.specs.Meaning.{member, Holds}
 use Rattle.calculus.specs.Branch.{start}
 use Rattle.calculus.specs.Problem.{Problem, termCount, setCount, Assignment, values, Satisfies}
 use Rattle.calculus.specs.Encoding.{Bytes, Written, Handed, WrittenAssignment}
 use Rattle.calculus.specs.Questions.{FirstNoOfRun, FirstNoOfCheck}
-use Rattle.calculus.specs.Forms.{listedForms, Agrees, AgreesForm, SatisfiesForm, modelNumber, model}
+use Rattle.calculus.specs.Forms.{listedForms, Agrees, SatisfiesForm, modelNumber, model}
 use Rattle.calculus.specs.Check.{assignmentOf}
 use Rattle.calculus.specs.Calls.{Verdict, call, answerWord, verdictNumber, Checked, check, checkWord, checkedNumber}
 use Rattle.calculus.specs.Order.{Progress, unbegun, Works}
@@ -83,8 +83,9 @@ pub record RunContract (bytes : List ℕ) (budget : ℕ) (forms trace : List ℕ
   pub no-false-alarm : verdictIn word ≡ verdictNumber Verdict.FALSE → (prob : Problem) × Written bytes prob × ((g : Assignment) → ¬ Satisfies prob g)
   -- After FORMS and FALSE the problem, as its bytes are written, and the listed records share exactly the same solutions.
   pub same-solutions : Finished word → (prob : Problem) × Written bytes prob × ((g : Assignment) → Satisfies prob g ↔ Some (SatisfiesForm prob g) (listedIn prob word forms′))
-  -- Its first half: every solution agrees with the merges and facts of some listed record.
-  pub covers : Finished word → (prob : Problem) → Written bytes prob → (g : Assignment) → Satisfies prob g → Some (AgreesForm prob g) (listedIn prob word forms′)
+  -- Its first half: every solution, with some whole numbers for the witnesses, agrees with the merges and facts of some listed record.
+  pub covers : Finished word → (prob : Problem) → Written bytes prob → (g : Assignment) → Satisfies prob g
+      → Some (λ r. (witness : Term → ℤ) × Agrees (termCount prob) (values prob g witness) r) (listedIn prob word forms′)
   -- Its second half, however the run ended: what satisfies a listed record is a solution.
   pub only-solutions : (prob : Problem) → Written bytes prob → (g : Assignment) → Some (SatisfiesForm prob g) (listedIn prob word forms′) → Satisfies prob g
   -- Unless it is refused, the verdict, counts, records and trace are those of document 01's order of work, which leaves no choice.

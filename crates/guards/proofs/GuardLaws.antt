@@ -11,7 +11,7 @@ use lib.Dec.{eqb}
 use borrow.Author.Tests.{eqb-true, eq-eqb, ne-eqb}
 use Rattle.calculus.specs.Lists.{upFrom, all, any, keep, first, bit}
 use Rattle.calculus.specs.Terms.{Term, SetVar, term, setVar}
-use Rattle.calculus.specs.Relations.{Relation, applies, unequal, propagation, by}
+use Rattle.calculus.specs.Relations.{Relation, applies, unequal, propagation, operandOf}
 use Rattle.calculus.specs.Meaning.{Constraint, member, nonmember, same, different, relation, negation, exactly, interval}
 use Rattle.calculus.specs.Branch.{Branch, rootAt, root, inside, outside, In, Out, Same, known}
 use Rattle.calculus.specs.Invariants.{Falls, ConstraintIn}
@@ -186,7 +186,7 @@ early s e j k m (inl r) = omega (arith, r .1)
 early s e j k m (inr r) = omega (arith, r .1)
 
 -- the rules of a relation
-row-guards : (n : ℕ) (b : Branch) → Falls (b .parents) → n ≤ 64 → (k : Relation) (A B C : SetVar) (j : ℕ) → RuleOf (relation k A B C) j → Guards n b (relation k A B C) j (rowGuard n (by (2 ^ A .index) (2 ^ B .index) (2 ^ C .index)) (numbered j))
+row-guards : (n : ℕ) (b : Branch) → Falls (b .parents) → n ≤ 64 → (k : Relation) (A B C : SetVar) (j : ℕ) → RuleOf (relation k A B C) j → Guards n b (relation k A B C) j (rowGuard n (operandOf (2 ^ A .index) (2 ^ B .index) (2 ^ C .index)) (numbered j))
 row-guards n b fall few k A B C j r =
     let s = row-number k A B C j r in
     roots-guards n b fall few (relation k A B C) j (omega (arith, s .1)) refl _ _ _ _
@@ -199,7 +199,7 @@ module _ (n : ℕ) (b : Branch) (es : List ℕ) (j : ℕ) where
   guardOf (Nonmember t A) = only (rootAt b (t .0)) 0 (2 ^ A .0)
   guardOf (Equated t u) = unless (eqb (rootAt b (t .0)) (rootAt b (u .0))) (rootAt b (t .0))
   guardOf (Different t u) = unless (not (eqb (rootAt b (t .0)) (rootAt b (u .0)))) (rootAt b (t .0))
-  guardOf (Related k A B C) = rowGuard n (by (2 ^ A .0) (2 ^ B .0) (2 ^ C .0)) (numbered j)
+  guardOf (Related k A B C) = rowGuard n (operandOf (2 ^ A .0) (2 ^ B .0) (2 ^ C .0)) (numbered j)
   guardOf (Negated k A B C w) = unless (decided (getD (b .insides) (rootAt b (w .0)) 0) (getD (b .outsides) (rootAt b (w .0)) 0) (2 ^ A .0) (2 ^ B .0)) (rootAt b (w .0))
   guardOf (Exactly A) = listGuard (length es) n j (2 ^ A .0)
   guardOf (Interval A x y) = listGuard (length es) n j (2 ^ A .0)

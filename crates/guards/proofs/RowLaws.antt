@@ -12,11 +12,11 @@ use lib.Bits.{bitAnd, bitOr, and-step, and-zero-r}
 use borrow.Author.Tests.{eqb-true, eqb-false, eq-eqb}
 use Rattle.calculus.specs.Lists.{imp, all, bit, Each, upFrom}
 use Rattle.calculus.specs.Terms.{SetVar, term}
-use Rattle.calculus.specs.Relations.{Rule, applies, Relation, equal, union, disjoint, subset, intersection, Operand, Literal, by, litKnown, rows}
+use Rattle.calculus.specs.Relations.{Rule, applies, Relation, equal, union, disjoint, subset, intersection, Operand, Literal, operandOf, litKnown, rows}
 use Rattle.calculus.specs.Relations as R
 use Rattle.calculus.specs.Meaning.{relation}
 use Rattle.calculus.specs.Branch.{Branch, rootAt, inside, outside, known}
-use Rattle.calculus.specs.Search.{operandOf, factOf, at}
+use Rattle.calculus.specs.Search.{factOf, at}
 use Rattle.calculus.proofs.Bools.{clash, test, and-l, and-r, and-i, or-l, or-r, or-cases, imp-at, same-test, every3, every3-at}
 use Rattle.calculus.proofs.Masks.{bit-or, bit-and, bit-zero, bit-pow}
 use Rattle.calculus.proofs.Sequences.{up-at}
@@ -102,27 +102,27 @@ abbrev iff : Bool → Bool → Bool
 iff a b = imp a b && imp b a
 
 abbrev guarded : Rule Literal → Bool
-guarded r = every3 (λ a b c. every3 (λ x y z. iff (applies (litKnown (by a b c) (by x y z)) r) (rowTest (by a b c) (by x y z) r)))
+guarded r = every3 (λ a b c. every3 (λ x y z. iff (applies (litKnown (operandOf a b c) (operandOf x y z)) r) (rowTest (operandOf a b c) (operandOf x y z) r)))
 
-guarded-at : (r : Rule Literal) → guarded r ≡ true → (a b c x y z : Bool) → applies (litKnown (by a b c) (by x y z)) r ≡ rowTest (by a b c) (by x y z) r
+guarded-at : (r : Rule Literal) → guarded r ≡ true → (a b c x y z : Bool) → applies (litKnown (operandOf a b c) (operandOf x y z)) r ≡ rowTest (operandOf a b c) (operandOf x y z) r
 guarded-at r e a b c x y z = same-test f g (imp-at f g (and-l (imp f g) (imp g f) t)) (imp-at g f (and-r (imp f g) (imp g f) t))
   where
     f : Bool
-    f = applies (litKnown (by a b c) (by x y z)) r
+    f = applies (litKnown (operandOf a b c) (operandOf x y z)) r
 
     g : Bool
-    g = rowTest (by a b c) (by x y z) r
+    g = rowTest (operandOf a b c) (operandOf x y z) r
 
     t : iff f g ≡ true
-    t = every3-at (λ x y z. iff (applies (litKnown (by a b c) (by x y z)) r) (rowTest (by a b c) (by x y z) r))
-        (every3-at (λ a b c. every3 (λ x y z. iff (applies (litKnown (by a b c) (by x y z)) r) (rowTest (by a b c) (by x y z) r))) e a b c) x y z
+    t = every3-at (λ x y z. iff (applies (litKnown (operandOf a b c) (operandOf x y z)) r) (rowTest (operandOf a b c) (operandOf x y z) r))
+        (every3-at (λ a b c. every3 (λ x y z. iff (applies (litKnown (operandOf a b c) (operandOf x y z)) r) (rowTest (operandOf a b c) (operandOf x y z) r))) e a b c) x y z
 
 module _ (b : Branch) (h : ℕ) (own : rootAt b h ≡ h) (A B C : SetVar) where
   abbrev bits : ℕ → Operand → Bool
-  bits m = by (bit m (A .index)) (bit m (B .index)) (bit m (C .index))
+  bits m = operandOf (bit m (A .index)) (bit m (B .index)) (bit m (C .index))
 
   abbrev powers : Operand → ℕ
-  powers = by (2 ^ A .index) (2 ^ B .index) (2 ^ C .index)
+  powers = operandOf (2 ^ A .index) (2 ^ B .index) (2 ^ C .index)
 
   tests-at : (q : Bool) (m : ℕ) (p : Operand) → tests q m (powers p) ≡ is q (bits m p)
   tests-at q m R.A = tests-one q m (A .index)
@@ -191,7 +191,7 @@ module _ (k : Relation) (A B C : SetVar) (j : ℕ) (r : RuleOf (relation k A B C
   row-number = let s = in-rows k A B C j r in numbers k j (s .0) (s .1)
 
   -- a rule applies at a root where its guard says so
-  pub row-applies : (n : ℕ) (b : Branch) (h : ℕ) → rootAt b h ≡ h → applies (known b) (at (term h) (operandOf A B C) (rowOf k j)) ≡ meets (rowGuard n (by (2 ^ A .index) (2 ^ B .index) (2 ^ C .index)) (numbered j)) b h
+  pub row-applies : (n : ℕ) (b : Branch) (h : ℕ) → rootAt b h ≡ h → applies (known b) (at (term h) (operandOf A B C) (rowOf k j)) ≡ meets (rowGuard n (operandOf (2 ^ A .index) (2 ^ B .index) (2 ^ C .index)) (numbered j)) b h
   row-applies n b h e =
       let s = in-rows k A B C j r in
       let t : Row k j = up-at (Row k) (firstRow k) (length (rows k)) (table k) j (s .0) (s .1) in

@@ -14,7 +14,7 @@ ghost use Rattle.calculus.specs.Lists.{any, Each};
 ghost use Rattle.calculus.specs.Terms.{term};
 ghost use Rattle.calculus.specs.Branch.{rootAt};
 ghost use Rattle.calculus.specs.Invariants.{Falls};
-ghost use Rattle.calculus.specs.Relations.{by};
+ghost use Rattle.calculus.specs.Relations.{operandOf};
 ghost use Rattle.constraints.specs.Decoded.{decoded, Handled};
 ghost use Rattle.places.specs.Places.{RuleOf};
 ghost use Rattle.branch.specs.Held.{rootOf};
@@ -199,7 +199,7 @@ fn unless(held: bool, h: u8) -> Guard
 // Rules 5, 6 and 8 to 18, of sets with masks x, y and z.
 fn row(j: u8, terms: u8, x: u8, y: u8, z: u8) -> Guard
     requires { ⌜ (5 ≤ j) × (j ≤ 18) × ¬ (j ≡ 7) ⌝ }
-    ensures { λ r. ⌜ r ≡ rowGuard terms (by x y z) (numbered j) ⌝ }
+    ensures { λ r. ⌜ r ≡ rowGuard terms (operandOf x y z) (numbered j) ⌝ }
 {
     match j {
         5 => below(terms, x, 0, y, 0),

@@ -10,7 +10,7 @@ use lib.Dec.{eqb}
 use borrow.Author.Tests.{eqb-true, eq-eqb}
 use Rattle.calculus.specs.Lists.{bit}
 use Rattle.calculus.specs.Terms.{term, setVar}
-use Rattle.calculus.specs.Relations.{Relation, equal, union, disjoint, subset, intersection, propagation, by}
+use Rattle.calculus.specs.Relations.{Relation, equal, union, disjoint, subset, intersection, propagation, operandOf}
 use Rattle.calculus.specs.Meaning.{Constraint, different, relation, entries}
 use Rattle.calculus.specs.Branch.{Branch, rootAt, root, In, Out, Same, known}
 use Rattle.calculus.specs.Invariants.{ConstraintIn}
@@ -138,30 +138,30 @@ module _ {bs : List ℕ} {i at w : ℕ} (st : Stands bs i at) (u : term w ≡ wi
     -- ---- relations
 
     abbrev rowsNear : Relation → ℕ → ℕ
-    rowsNear k z = rowRule k (by (bit ins p) (bit ins q) (bit ins z)) (by (bit outs p) (bit outs q) (bit outs z))
+    rowsNear k z = rowRule k (operandOf (bit ins p) (bit ins q) (bit ins z)) (operandOf (bit outs p) (bit outs q) (bit outs z))
 
     related : (k : Relation) (z : ℕ) → rowsNear k z ≡ nearRule n b h (relation k (setVar p) (setVar q) (setVar z))
     related k z = sym (relation-near n b parents ins outs h m (setVar p) (setVar q) (setVar z) k)
 
     module _ (a c : Bool) (f : a ≡ bit ins p) (g : c ≡ bit ins q) where
-      pub equal-near : kind ≡ 5 → rowRule equal (by a c a) (by false false false) ≡ near
+      pub equal-near : kind ≡ 5 → rowRule equal (operandOf a c a) (operandOf false false false) ≡ near
       unfolding rowRule
-      equal-near e = ap₂ (λ (x y : Bool). rowRule equal (by x y x) (by false false false)) f g ∙ related equal p ∙ is-near 5 e
+      equal-near e = ap₂ (λ (x y : Bool). rowRule equal (operandOf x y x) (operandOf false false false)) f g ∙ related equal p ∙ is-near 5 e
 
       pub subset-near : kind ≡ 9 → cond a (cond c 0 15) 0 ≡ near
       unfolding rowRule
-      subset-near e = sym (subset-is a c) ∙ ap₂ (λ (x y : Bool). rowRule subset (by x y x) (by false false false)) f g ∙ related subset p ∙ is-near 9 e
+      subset-near e = sym (subset-is a c) ∙ ap₂ (λ (x y : Bool). rowRule subset (operandOf x y x) (operandOf false false false)) f g ∙ related subset p ∙ is-near 9 e
 
-      pub intersection-near : kind ≡ 10 → (d : Bool) → d ≡ bit ins s → rowRule intersection (by a c d) (by false false false) ≡ near
+      pub intersection-near : kind ≡ 10 → (d : Bool) → d ≡ bit ins s → rowRule intersection (operandOf a c d) (operandOf false false false) ≡ near
       unfolding rowRule
       intersection-near e d k = rw (f, g, k) (related intersection s ∙ is-near 10 e)
 
       module _ (x y : Bool) (v : x ≡ bit outs p) (z : y ≡ bit outs q) where
-        pub disjoint-near : kind ≡ 8 → rowRule disjoint (by a c a) (by x y x) ≡ near
+        pub disjoint-near : kind ≡ 8 → rowRule disjoint (operandOf a c a) (operandOf x y x) ≡ near
         unfolding rowRule
         disjoint-near e = rw (f, g, v, z) (related disjoint p ∙ is-near 8 e)
 
-        pub union-near : kind ≡ 7 → (d : Bool) → d ≡ bit ins s → rowRule union (by a c d) (by x y false) ≡ near
+        pub union-near : kind ≡ 7 → (d : Bool) → d ≡ bit ins s → rowRule union (operandOf a c d) (operandOf x y false) ≡ near
         unfolding rowRule
         union-near e d k = rw (f, g, v, z, k) (related union s ∙ is-near 7 e)
 

@@ -11,11 +11,11 @@ use lib.Dec.{eqb}
 use borrow.Author.Tests.{eqb-true, eq-eqb}
 use Rattle.calculus.specs.Lists.{Each, any, first, keep, bit}
 use Rattle.calculus.specs.Terms.{Term, SetVar, term, termsFrom}
-use Rattle.calculus.specs.Relations.{Rule, Relation, Operand, Literal, applies, propagation, propagationRows, by, litKnown}
+use Rattle.calculus.specs.Relations.{Rule, Relation, Operand, Literal, applies, propagation, propagationRows, operandOf, litKnown}
 use Rattle.calculus.specs.Relations as R
 use Rattle.calculus.specs.Meaning.{Constraint, member, nonmember, same, different, relation, negation, exactly, interval, entries}
 use Rattle.calculus.specs.Branch.{Branch, rootAt, root, inside, outside, In, Out, known}
-use Rattle.calculus.specs.Search.{Move, operandOf, factOf, at, over, rootsOf}
+use Rattle.calculus.specs.Search.{Move, factOf, at, over, rootsOf}
 use Rattle.calculus.specs.Invariants.{ConstraintIn}
 use Rattle.calculus.proofs.Bools.{clash, test, and-i, or-l, or-r, map-Each}
 use Rattle.calculus.proofs.SearchLaws.{first-stop, first-next}
@@ -143,7 +143,7 @@ module _ (n : ℕ) (b : Branch) (parents : List ℕ) (ins outs h : ℕ) (m : Mee
 
   module _ (A B C : SetVar) where
     abbrev bits : ℕ → Operand → Bool
-    bits x = by (bit x (A .index)) (bit x (B .index)) (bit x (C .index))
+    bits x = operandOf (bit x (A .index)) (bit x (B .index)) (bit x (C .index))
 
     literal-known : (l : Literal) → known b (factOf (term h) (operandOf A B C) l) ≡ litKnown (bits ins) (bits outs) l
     literal-known (R.In R.A) = in-mask h (m .own) A

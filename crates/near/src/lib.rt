@@ -14,7 +14,7 @@ ghost use lib.ListN.{length};
 ghost use lib.Dec.{eqb};
 ghost use Rattle.calculus.specs.Lists.{upFrom, bit};
 ghost use Rattle.calculus.specs.Terms.{term};
-ghost use Rattle.calculus.specs.Relations.{equal, union, disjoint, intersection, by};
+ghost use Rattle.calculus.specs.Relations.{equal, union, disjoint, intersection, operandOf};
 ghost use Rattle.calculus.specs.Branch.{Branch};
 ghost use Rattle.calculus.specs.Invariants.{Falls};
 ghost use Rattle.calculus.specs.Reading.{read};
@@ -45,7 +45,7 @@ fn lacking(a: bool, x: bool, j: u8) -> u8
 
 // For each relation but subset its first propagation rule that applies at a root, or 0: the root's class is known in A, B and C as a, b and c say, and out of A and B as x and y say.
 fn equal_rule(a: bool, b: bool) -> u8
-    ensures { λ r. ⌜ r ≡ rowRule equal (by a b a) (by false false false) ⌝ }
+    ensures { λ r. ⌜ r ≡ rowRule equal (operandOf a b a) (operandOf false false false) ⌝ }
 {
     if a {
         if b {
@@ -60,7 +60,7 @@ fn equal_rule(a: bool, b: bool) -> u8
 }
 
 fn union_rule(a: bool, b: bool, c: bool, x: bool, y: bool) -> u8
-    ensures { λ r. ⌜ r ≡ rowRule union (by a b c) (by x y false) ⌝ }
+    ensures { λ r. ⌜ r ≡ rowRule union (operandOf a b c) (operandOf x y false) ⌝ }
 {
     if c {
         if b {
@@ -81,7 +81,7 @@ fn union_rule(a: bool, b: bool, c: bool, x: bool, y: bool) -> u8
 }
 
 fn disjoint_rule(a: bool, b: bool, x: bool, y: bool) -> u8
-    ensures { λ r. ⌜ r ≡ rowRule disjoint (by a b a) (by x y x) ⌝ }
+    ensures { λ r. ⌜ r ≡ rowRule disjoint (operandOf a b a) (operandOf x y x) ⌝ }
 {
     if a {
         if y {
@@ -93,7 +93,7 @@ fn disjoint_rule(a: bool, b: bool, x: bool, y: bool) -> u8
 }
 
 fn intersection_rule(a: bool, b: bool, c: bool) -> u8
-    ensures { λ r. ⌜ r ≡ rowRule intersection (by a b c) (by false false false) ⌝ }
+    ensures { λ r. ⌜ r ≡ rowRule intersection (operandOf a b c) (operandOf false false false) ⌝ }
 {
     if c {
         if a {

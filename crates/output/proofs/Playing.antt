@@ -9,7 +9,7 @@ use lib.ListN.{length}
 use lib.Dec.{leb, eqb}
 use borrow.Author.Tests.{leb-true, leb-false, ne-eqb, eqb-true, eqb-false}
 use Rattle.calculus.specs.Lists.{Each}
-use Rattle.calculus.specs.Log.{Event, formed, stepped}
+use Rattle.calculus.specs.Run.{Event, formed, stepped}
 use Rattle.calculus.specs.Forms.{recordOf}
 use Rattle.calculus.proofs.Records.{record-length}
 use Rattle.output.specs.State.{State, listed, noted, event, play, Fine}

@@ -15,9 +15,8 @@ use Rattle.calculus.specs.Meaning.{Constraint}
 use Rattle.calculus.specs.Branch.{Branch, known}
 use Rattle.calculus.specs.Relations.{applies}
 use Rattle.calculus.specs.Search.{Candidate, children, step, next, taken, places}
-use Rattle.calculus.specs.Log.{Event, formed, stepped, log}
 use Rattle.calculus.specs.Forms.{recordOf}
-use Rattle.calculus.specs.Run.{End, DONE, SPENT, NOROOM, Tally, stop, listForm, takeStep, tally}
+use Rattle.calculus.specs.Run.{Event, formed, stepped, log, End, DONE, SPENT, NOROOM, Tally, stop, listForm, takeStep, tally}
 use Rattle.calculus.proofs.Bools.{Each-all}
 use Rattle.calculus.proofs.LogEvents.{log-each}
 use Rattle.calculus.proofs.Records.{record-length}

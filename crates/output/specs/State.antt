@@ -4,9 +4,8 @@ use mathlib.Core.List.{List, [], _∷_, _++_}
 use Prim.Native.Nat.{ℕ, zero, suc, _+_, _*_, _≤_}
 use lib.ListN.{length, take, drop}
 use lib.Dec.{eqb, leb}
-use Rattle.calculus.specs.Log.{Event, formed, stepped}
 use Rattle.calculus.specs.Forms.{recordOf}
-use Rattle.calculus.specs.Run.{End, DONE, SPENT, NOROOM, Tally}
+use Rattle.calculus.specs.Run.{Event, formed, stepped, End, DONE, SPENT, NOROOM, Tally}
 use Rattle.calculus.specs.Calls.{over}
 use Rattle.output.specs.declared.Counts.{Counts}
 

@@ -11,11 +11,11 @@ use lib.Dec.{eqb}
 use borrow.Author.Tests.{eqb-true, eq-eqb, ne-eqb}
 use Rattle.calculus.specs.Lists.{upFrom, keep, first, gather, Each}
 use Rattle.calculus.specs.Terms.{Term, SetVar, term}
-use Rattle.calculus.specs.Relations.{Rule, Literal, Relation, equal, union, disjoint, subset, intersection, Operand, applies, propagation, propagationRows, splitRows, negationRow}
+use Rattle.calculus.specs.Relations.{Rule, Literal, Relation, equal, union, disjoint, subset, intersection, Operand, applies, propagation, propagationRows, splitRows, negationRow, operandOf}
 use Rattle.calculus.specs.Meaning.{Constraint, member, nonmember, same, different, relation, negation, exactly, interval, entries}
 use Rattle.calculus.specs.Branch.{Branch, walk, rootAt, root, In, Out, Same, known}
 use Rattle.calculus.specs.Invariants.{Falls, ConstraintIn}
-use Rattle.calculus.specs.Search.{Move, operandOf, at, over, choose, rootsOf}
+use Rattle.calculus.specs.Search.{Move, at, over, choose, rootsOf}
 use Rattle.calculus.proofs.Bools.{Each-imp, first-some}
 use Rattle.calculus.proofs.Walk.{walk-le, walk-root, root-walk}
 use Rattle.calculus.proofs.Sequences.{up-each, keep-each}

@@ -10,13 +10,13 @@ use lib.ListN.{length}
 use borrow.Author.Tests.{eq-eqb, ne-eqb}
 use Rattle.calculus.specs.Lists.{upFrom, picked, Each, Some}
 use Rattle.calculus.specs.Terms.{Term, SetVar, term}
-use Rattle.calculus.specs.Relations.{Rule, Literal, Operand, Relation, equal, union, disjoint, subset, intersection, unequal, negationRow}
+use Rattle.calculus.specs.Relations.{Rule, Literal, Operand, Relation, equal, union, disjoint, subset, intersection, unequal, negationRow, operandOf}
 use Rattle.calculus.specs.Relations as R
 use Rattle.calculus.specs.Meaning.{Constraint, member, nonmember, same, different, relation, negation, exactly, interval, entries}
 use Rattle.calculus.specs.Branch.{Branch, root, Fact, In, Same, assert, assertAll}
 use Rattle.calculus.specs.Order.{Ranged}
 use Rattle.calculus.specs.Invariants.{WellFormed, ConstraintIn}
-use Rattle.calculus.specs.Search.{operandOf, factOf, at, distinct, children}
+use Rattle.calculus.specs.Search.{factOf, at, distinct, children}
 use Rattle.calculus.proofs.Bools.{Each-all, Each-imp, Each-map}
 use Rattle.calculus.proofs.Sequences.{up-at, each-at}
 use Rattle.calculus.proofs.Asserting.{below}

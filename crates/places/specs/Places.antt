@@ -8,11 +8,11 @@ use lib.ListN.{length, getD}
 use lib.Dec.{eqb}
 use Rattle.calculus.specs.Lists.{upFrom, keep, first}
 use Rattle.calculus.specs.Terms.{Term, SetVar, term}
-use Rattle.calculus.specs.Relations.{Rule, Literal, Relation, equal, union, disjoint, subset, intersection, applies, propagation, propagationRows, splitRows, negationRow}
+use Rattle.calculus.specs.Relations.{Rule, Literal, Relation, equal, union, disjoint, subset, intersection, applies, propagation, propagationRows, splitRows, negationRow, operandOf}
 use Rattle.calculus.specs.Relations as R
 use Rattle.calculus.specs.Meaning.{Constraint, member, nonmember, same, different, relation, negation, exactly, interval, entries}
 use Rattle.calculus.specs.Branch.{Branch, rootAt, root, In, Out, Same, known}
-use Rattle.calculus.specs.Search.{Move, operandOf, at, choose, propagations, splits, rootsOf}
+use Rattle.calculus.specs.Search.{Move, at, choose, propagations, splits, rootsOf}
 
 -- ---- rules of a constraint
 

@@ -6,10 +6,10 @@ use mathlib.Core.List.{List, [], _∷_}
 use Prim.Native.Nat.{ℕ, zero, suc, _+_, _<_}
 use lib.ListN.{length, getD}
 use Rattle.calculus.specs.Terms.{Term, term, setVar}
-use Rattle.calculus.specs.Relations.{propagation, unequal, negationRow}
+use Rattle.calculus.specs.Relations.{propagation, unequal, negationRow, operandOf}
 use Rattle.calculus.specs.Meaning as calculus
 use Rattle.calculus.specs.Branch.{Branch, root, In, Out, Same, known}
-use Rattle.calculus.specs.Search.{at as placed, operandOf}
+use Rattle.calculus.specs.Search.{at as placed}
 use Rattle.calculus.specs.Reading.{read}
 use Rattle.calculus.specs.Invariants.{ConstraintIn}
 use Rattle.calculus.proofs.SearchLaws.{first-next}

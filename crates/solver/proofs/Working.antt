@@ -9,7 +9,7 @@ use Rattle.calculus.specs.Lists.{upFrom, gather, picked}
 use Rattle.calculus.specs.Meaning.{Constraint}
 use Rattle.calculus.specs.Branch as calculus
 use Rattle.calculus.specs.Search.{Next, solved, step, next}
-use Rattle.calculus.specs.Log.{formed, stepped, log}
+use Rattle.calculus.specs.Run.{formed, stepped, log}
 use Rattle.calculus.specs.Forms.{recordOf}
 use Rattle.calculus.specs.Invariants.{WellFormed}
 use Rattle.calculus.proofs.LogLaws.{at-zero}

@@ -10,10 +10,9 @@ use Rattle.calculus.specs.Terms.{Term, term, termsFrom}
 use Rattle.calculus.specs.Meaning.{Constraint}
 use Rattle.calculus.specs.Branch as calculus
 use Rattle.calculus.specs.Search.{children}
-use Rattle.calculus.specs.Log.{Event, log}
 use Rattle.calculus.specs.Problem.{Problem}
 use Rattle.calculus.specs.Reading.{parsed, read}
-use Rattle.calculus.specs.Run.{run}
+use Rattle.calculus.specs.Run.{Event, log, run}
 use Rattle.calculus.specs.Invariants.{measure}
 use Rattle.problem.specs.declared.Table.{Table}
 use Rattle.problem.specs.Table.{constraintsOf, noConstraint}

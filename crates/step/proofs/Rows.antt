@@ -6,10 +6,10 @@ use Prim.Native.Nat.{ℕ, _≤_, _<_}
 use native.Mathlib.Omega.{arith}
 use lib.ListN.{length, getD, List·getD-map}
 use Rattle.calculus.specs.Terms.{Term, SetVar}
-use Rattle.calculus.specs.Relations.{Literal}
+use Rattle.calculus.specs.Relations.{Literal, operandOf}
 use Rattle.calculus.specs.Relations as R
 use Rattle.calculus.specs.Branch.{Branch, In, Out, assert, assertAll}
-use Rattle.calculus.specs.Search.{operandOf, factOf}
+use Rattle.calculus.specs.Search.{factOf}
 use Rattle.calculus.specs.Meaning.{Constraint}
 use Rattle.calculus.proofs.Sequences.{up-at}
 use Rattle.places.specs.Alternatives.{slotsOf}

@@ -6,10 +6,10 @@ use Prim.Native.Nat.{ℕ, _-_}
 use lib.ListN.{getD}
 use lib.Dec.{eqb}
 use Rattle.calculus.specs.Terms.{Term, SetVar, term}
-use Rattle.calculus.specs.Relations.{Rule, Literal, A, equal, union, disjoint, subset, intersection, unequal, propagation, propagationRows, splitRows, negationRow}
+use Rattle.calculus.specs.Relations.{Rule, Literal, A, equal, union, disjoint, subset, intersection, unequal, propagation, propagationRows, splitRows, negationRow, operandOf}
 use Rattle.calculus.specs.Relations as R
 use Rattle.calculus.specs.Branch.{Branch, Fact, In, assert}
-use Rattle.calculus.specs.Search.{operandOf, at}
+use Rattle.calculus.specs.Search.{at}
 use Rattle.places.specs.Alternatives.{classChild}
 
 -- the rules on sets, 5 to 18

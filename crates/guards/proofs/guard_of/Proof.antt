@@ -5,7 +5,7 @@ use native.Mathlib.Omega.{arith}
 use lib.ListN.{length, getD}
 use lib.Dec.{eqb}
 use borrow.Author.Needs.{needs}
-use Rattle.calculus.specs.Relations.{by}
+use Rattle.calculus.specs.Relations.{operandOf}
 use Rattle.guards.specs.Guarded.{only, unless, decided, numbered, rowGuard, listGuard}
 use Rattle.guards.proofs.GuardLaws.{ap₃, root-of, root-low, mask-of, in-range, guards-right, related-number}
 use Rattle.guards.proofs.guard_of.Statement.{statement}
@@ -156,7 +156,7 @@ returns-5 c =
     let s = c .before .before .before .before .before .before .before .before .before .before .before in
     let e = c .before .before .before .before .before .l5 .given .1 in
     let r = in-range e (s .pre .1) in
-    guards-right e (s .pre) (c .row .ensures ∙ ap₃ (λ (x y z : ℕ). rowGuard (s .args .terms) (by x y z) (numbered (s .args .j))) (mask-of (r .0)) (mask-of (r .1)) (mask-of (r .2)))
+    guards-right e (s .pre) (c .row .ensures ∙ ap₃ (λ (x y z : ℕ). rowGuard (s .args .terms) (operandOf x y z) (numbered (s .args .j))) (mask-of (r .0)) (mask-of (r .1)) (mask-of (r .2)))
 
 returns-6 : tie.Need-returns-6
 returns-6 c =
