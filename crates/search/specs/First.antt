@@ -27,7 +27,7 @@ found ls b p = cond (eqb (p .rule) 0) none (some (candidateAt ls b p))
 unfoldable pub firstPlace : Bool → ℕ → List Constraint → Branch → Option Candidate
 firstPlace split n ls b = first (λ (p : Candidate). applies (known b) (p .move)) (candidates (offers split n b) 0 ls)
 
--- a place of these constraints: the constraint and the rule are there, the position is the rule's first, an entry is one of the list's, and any other position is the root concerned
+-- a place of these constraints: the constraint and the rule are there; the position is the first where the rule applies, an entry of the list or the root concerned
 pub record Within (split : Bool) (n : ℕ) (ls : List Constraint) (b : Branch) (p : Place) : Type 0 where
   pub in-problem : p .constraint < length ls
   pub of-rule : InSpan (spanOf split (getD ls (p .constraint) noConstraint)) (p .rule)
