@@ -60,7 +60,7 @@ const C1: &[u8] = &[
 ];
 
 /// C1 to C12 of document 01 (C2 and C3 have C1's bytes), and a few more.
-pub const WRITTEN: [Written; 19] = [
+pub const WRITTEN: [Written; 20] = [
     Written { name: "C1", problem: C1, text: "FORMS 1 STEPS 5\nx=4 A={3,4}\n" },
     Written { name: "C4", problem: C1.split_at(19).0, text: "REFUSED 2\n" },
     Written { name: "C5", problem: &[0, 0, 0, 0], text: "FORMS 1 STEPS 0\n\n" },
@@ -154,6 +154,21 @@ pub const WRITTEN: [Written; 19] = [
             1, 9, 0, 2, b'a', b'c', 1, b'M', 4, 1, 1, 0, 1, 2, 0, 1, 0, 0, 3, 2, 0,
         ],
         text: "FORMS 1 STEPS 4\na=32002 c=9 M={9,32002}\n",
+    },
+    // The sample of crates/listing: C = A ∪ B, A = {-300, 7}, x in C, B not D.
+    Written {
+        name: "the program's sample",
+        problem: &[
+            2, 0xD4, 0xFE, 7, 0, 1, b'x', 4, b'A', b'B', b'C', b'D', 4, //
+            7, 0, 1, 2, 11, 0, 2, 0, 1, 1, 2, 2, 6, 1, 3,
+        ],
+        text: "FORMS 6 STEPS 13\n\
+            x=-300 A={-300,7} B={32004} C={-300,7,32004} D={}\n\
+            x=-300 A={-300,7} B={} C={-300,7} D={32004}\n\
+            x=7 A={-300,7} B={32004} C={-300,7,32004} D={}\n\
+            x=7 A={-300,7} B={} C={-300,7} D={32004}\n\
+            x=32003 A={-300,7} B={32003,32004} C={-300,7,32003,32004} D={}\n\
+            x=32003 A={-300,7} B={32003} C={-300,7,32003} D={32004}\n",
     },
 ];
 

@@ -1,4 +1,4 @@
--- Tables of examples: what the definitions give for each row is what the row expects. The expected values are those of document 01 or, beyond it, of a solver written separately from these definitions.
+-- Tables of examples: what the definitions give for each row is what the row expects. The expected values are those of document 01 or, beyond it, of a solver written separately from these definitions. FormMeaning has theorems instead of a table.
 pub mod Rows
 pub mod Document
 pub mod Mistakes
@@ -10,3 +10,4 @@ pub mod Paths
 pub mod Assignments
 pub mod AnswerWords
 pub mod Listings
+pub mod FormMeaning

@@ -66,7 +66,7 @@ linesOf (parsed prob) o = heading (o .answer) ∷ map (formLine prob) (formRecor
 unfoldable pub listing : List ℕ → List (List ℕ)
 listing bytes = linesOf (read bytes) (programCall bytes)
 
--- what the program writes: the lines of the input's listing, one after the other
+-- The text that the program is to write: the lines of the input's listing, one after the other. Its proof shows that turn i of its loop has line i of the listing in a buffer. No contract can say that the loop hands these lines to standard output, in their order and each once.
 abbrev pub written : List ℕ → List ℕ
 written bytes = gather (λ (l : List ℕ). l) (listing bytes)
 

@@ -292,6 +292,30 @@ fn of_steps(places: u8, names: u8, first: u8, steps: u64) -> Vec<u8> {
     draft(steps.checked_sub(answer::steps(least)).expect("fewer steps than asked for"))
 }
 
+/// Ten times A ≠ B, and so many constants: 1,024 forms.
+fn ten_apart(constants: i16) -> Vec<u8> {
+    let draft = Draft {
+        constants: (1..=constants).collect(),
+        names: Vec::new(),
+        sets: b"AB".to_vec(),
+        lines: vec![vec![6, 0, 1]; 10],
+    };
+    draft.bytes()
+}
+
+/// A and B are subsets of D, A is not any of these sets, and A is not A.
+fn not_itself(others: [u8; 8]) -> Vec<u8> {
+    let mut draft = Draft {
+        constants: Vec::new(),
+        names: Vec::new(),
+        sets: b"ABCD".to_vec(),
+        lines: vec![vec![9, 0, 3], vec![9, 1, 3]],
+    };
+    draft.lines.extend(others.map(|other| vec![6, 0, other]));
+    draft.lines.push(vec![6, 0, 0]);
+    draft.bytes()
+}
+
 /// A problem of so many bytes: x is one of four constants, said over and over.
 fn of_length(length: usize) -> Vec<u8> {
     let mut draft = Draft {
@@ -345,6 +369,11 @@ fn chosen() -> Vec<Input> {
     started("1,011 steps", of_steps(5, 5, 1, 1011), "SPENT 119 STEPS 1000\na=-28 b=-31 ");
     started("1,000 steps without a form", of_steps(4, 5, 3, 1000), "FALSE 0 STEPS 1000\n");
     started("1,001 steps without a form", of_steps(4, 5, 3, 1001), "SPENT 0 STEPS 1000\n");
+    // The rows of crate limits.
+    started("1,000 steps of witnesses", not_itself([2, 1, 2, 1, 2, 1, 1, 1]), "FALSE 0 STEPS 1000\n");
+    started("1,001 steps of witnesses", not_itself([1, 1, 2, 1, 2, 1, 1, 1]), "SPENT 0 STEPS 1000\n");
+    started("992 records of 33 bytes", ten_apart(1), "NOROOM 992 STEPS 997\nA={32002,32003,");
+    started("910 records of 36 bytes", ten_apart(2), "NOROOM 910 STEPS 914\nA={32003,32004,");
 
     // Lengths about the limits. The longer ones start with a whole problem.
     for length in [4095, 4096] {
