@@ -56,11 +56,11 @@ pub record Handed : Type 0 where
 abbrev pub Fits16 : ℤ → Type 0
 Fits16 x = (negsuc 32767 ≤ℤ x) × (x ≤ℤ pos 32767)
 
--- a count byte equal to the count of variables, a two-byte value each, then per set a count byte and strictly ascending two-byte values
+-- a count byte, a two-byte value each, then per set a count byte and two-byte values
 abbrev pub encodeHanded : Handed → List ℕ
 encodeHanded g = (length (g .numbers) ∷ gather twoBytes (g .numbers)) ++ gather (λ xs. length xs ∷ gather twoBytes xs) (g .sets)
 
--- these bytes are this assignment, and no more
+-- these bytes are this assignment of the problem, and no more: a value for each variable, strictly ascending values for each set
 pub record WrittenAssignment (prob : Problem) (bs : List ℕ) (g : Handed) : Type 0 where
   pub encoded : bs ≡ encodeHanded g
   pub numbers : length (g .numbers) ≡ length (prob .variables)

@@ -1,15 +1,15 @@
--- Document 01's order of work a second time, as relations, without fuel and without the search of Search.antt: what asserting gives, what a record shows, which place is first, which children a step leaves, what a path is, and how a run goes. Of the first telling it uses branches with what they know, start and assert (Branch.antt); Reaches and Asserts (Demands.antt) say what those are.
-use mathlib.Core.Path.{_≡_, refl}
+-- Document 01's order of work a second time, as relations, without fuel and without the search of Search.antt: what asserting gives, what a record shows, which place is first, which children a step leaves, what a path is, and how a run goes. Of the first telling it uses branches with what they know, roots, start and assert (Branch.antt), which Reaches and Asserts (Demands.antt) describe, the entries of an interval (Meaning.antt) and which terms are constants (Problem.antt).
+use mathlib.Core.Path.{_≡_}
 use mathlib.Core.Logic.{_⊎_, _↔_, _≢_}
-use mathlib.Core.Bool.{Bool, true, false}
+use mathlib.Core.Bool.{true}
 use mathlib.Core.Option.{Option, none, some}
 use mathlib.Core.List.{List, [], _∷_, _++_, map}
-use Prim.Native.Nat.{ℕ, zero, suc, _+_, _*_, _≤_, _<_}
+use Prim.Native.Nat.{ℕ, suc, _+_, _*_, _≤_, _<_}
 use lib.ListN.{length, getD}
-use Rattle.calculus.specs.Lists.{Each, Some, bit}
+use Rattle.calculus.specs.Lists.{Some, bit}
 use Rattle.calculus.specs.Terms.{Term, SetVar, term, setVar}
 use Rattle.calculus.specs.Relations.{equal, union, disjoint, subset, intersection, unequal}
-use Rattle.calculus.specs.Meaning.{Constraint, member, nonmember, same, different, relation, negation, exactly, interval, entries, _∈_, Valuation}
+use Rattle.calculus.specs.Meaning.{Constraint, member, nonmember, same, different, relation, negation, exactly, interval, entries, Valuation, Holds}
 use Rattle.calculus.specs.Branch.{Branch, start, rootAt, root, Fact, In, Out, Same, known, assert}
 use Rattle.calculus.specs.Problem.{Problem, termCount, constantTerms}
 use Rattle.calculus.specs.Calls.{Verdict, FORMS, FALSE, SPENT, NOROOM}
@@ -54,11 +54,11 @@ pub data Reached (n : ℕ) (constants : List Term) (m : ℕ) : Branch → Type 0
   begun : Reached n constants m (start n)
   asserted : {b c : Branch} (f : Fact) → Reached n constants m b → Ranged n m f → assert constants b f ≡ some c → Reached n constants m c
 
--- a fact is true of a valuation
+-- a fact is true of a valuation: what the constraint means that says so
 abbrev pub TrueOf : Valuation → Fact → Type 0
-TrueOf v (In t A) = v .num t ∈ v .members A
-TrueOf v (Out t A) = ¬ (v .num t ∈ v .members A)
-TrueOf v (Same t u) = v .num t ≡ v .num u
+TrueOf v (In t A) = Holds v (member t A)
+TrueOf v (Out t A) = Holds v (nonmember t A)
+TrueOf v (Same t u) = Holds v (same t u)
 
 -- ---- what a record shows
 

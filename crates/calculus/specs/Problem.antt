@@ -53,7 +53,7 @@ valueOf prob number witness t =
 abbrev pub values : Problem → Assignment → (Term → ℤ) → Valuation
 values prob g witness = record { num = valueOf prob (g .number) witness; members = g .members }
 
--- The assignment satisfies the problem (document 01: the setting meets the sheet, is a solution): every constraint's meaning is true of it. In a problem that is accepted no meaning looks at a witness.
+-- The assignment satisfies the problem (document 01: the setting meets the sheet, is a solution): every constraint's meaning is true of it. The witnesses have 0 here, and no constraint of a valid problem names one.
 abbrev pub Satisfies : Problem → Assignment → Type 0
 Satisfies prob g = Each (Holds (values prob g (λ _. pos 0))) (prob .constraints)
 
@@ -76,7 +76,7 @@ Repeats disjoint A C = C ≡ A
 Repeats subset A C = C ≡ A
 Repeats intersection A C = Unit {0}
 
--- questions 8 and 9 of a constraint: cs are the constants, the first N terms can be named, and there are S sets
+-- questions 8 and 9 of a constraint, and that it is told in one way (Repeats): cs are the constants, the first N terms can be named, and there are S sets
 abbrev pub Refers : List ℤ → ℕ → ℕ → Constraint → Type 0
 Refers cs N S (member t A) = (t .index < N) × (A .index < S)
 Refers cs N S (nonmember t A) = (t .index < N) × (A .index < S)
@@ -114,7 +114,7 @@ abbrev pub Numbered : ℕ → ℕ → List Constraint → Type 0
 Numbered w last [] = w ≡ last
 Numbered w last (l ∷ ls) = Tied w l × Numbered (w + uses l) last ls
 
--- what questions 3 to 6, 8, 9 and 11 ask of a problem
+-- what questions 3 to 6, 8, 9 and 11 ask of a problem, and that its witnesses are numbered in order
 pub record Valid (prob : Problem) : Type 0 where
   pub rising : Rising (prob .constants)
   pub range : (p : ℕ) → p < constantCount prob → (negsuc 31999 ≤ℤ getD (prob .constants) p (pos 0)) × (getD (prob .constants) p (pos 0) ≤ℤ pos 32000)

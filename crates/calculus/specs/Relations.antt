@@ -79,12 +79,7 @@ propagationRows intersection = propagation 16 (In C ∷ []) (In A) ∷ propagati
 -- rule 12: in C, with A and B both undecided: in A, or out of A and in B
 abbrev pub splitRows : Relation → List (Rule Literal)
 splitRows equal = []
-splitRows union = record {
-  rule = 12;
-  premises = In C ∷ [];
-  blockers = (In A ∷ []) ∷ (Out A ∷ []) ∷ (In B ∷ []) ∷ (Out B ∷ []) ∷ [];
-  alternatives = (In A ∷ []) ∷ (Out A ∷ In B ∷ []) ∷ [];
-} ∷ []
+splitRows union = record { rule = 12; premises = In C ∷ []; alternatives = (In A ∷ []) ∷ (Out A ∷ In B ∷ []) ∷ []; blockers = (In A ∷ []) ∷ (Out A ∷ []) ∷ (In B ∷ []) ∷ (Out B ∷ []) ∷ [] } ∷ []
 splitRows disjoint = []
 splitRows subset = []
 splitRows intersection = []

@@ -18,7 +18,7 @@ pub data Event : Type 0 where
   stepped : List ℕ → Event
 
 module _ (n : ℕ) (constants : List Term) (ls : List Constraint) where
-  -- each child is worked as a branch before the next. The fuel bounds the length of a path; it never runs out (Demands, Follows)
+  -- each child is worked as a branch before the next. The fuel bounds the length of a path; it never runs out, as Follows and OneWay (Demands.antt) say together.
   abbrev pub log : ℕ → Branch → List Event
   log zero b = formed b ∷ []
   log (suc fuel) b = elim (next n constants ls b) [

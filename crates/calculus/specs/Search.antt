@@ -41,12 +41,7 @@ module _ (hs : List Term) (b : Branch) where
 
   -- rule 20 at root h: in A, but no entry in its class: merged with each distinct class of entries, in entry order
   abbrev pub choose : SetVar → List Term → Term → Move
-  choose A es h = record {
-    rule = 20;
-    premises = In h A ∷ [];
-    blockers = map (λ (e : Term). Same h e ∷ []) es;
-    alternatives = map (λ (e : Term). Same h e ∷ []) (distinct (map (root b) es));
-  }
+  choose A es h = record { rule = 20; premises = In h A ∷ []; blockers = map (λ (e : Term). Same h e ∷ []) es; alternatives = map (λ (e : Term). Same h e ∷ []) (distinct (map (root b) es)) }
 
   abbrev pub choosing : SetVar → List Term → List (Term × Move)
   choosing A es = map (λ (h : Term). (h, choose A es h)) hs

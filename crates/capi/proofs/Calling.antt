@@ -18,7 +18,7 @@ use Rattle.problem.proofs.Access.{opened}
 use Rattle.output.specs.declared.Counts.{Counts}
 use Rattle.output.specs.State.{State, state, stopNumber, endOf, left}
 use Rattle.solver.specs.Outcomes.{Runs}
-use Rattle.capi.specs.Contract.{RunContract}
+use Rattle.capi.specs.Contract.{RunContract, Determined}
 use Rattle.capi.proofs.Contracted.{contract}
 
 -- the table of a refused problem has the question's number
@@ -44,12 +44,16 @@ end-number SPENT = refl
 end-number NOROOM = refl
 
 module _ (bs : List ℕ) (budget : ℕ) (F T : List ℕ) where
-  contract-of : Bytes bs → (o : Outcome) → call bs budget F T ≡ o → (w : ℕ) → w ≡ answerWord (o .answer) → RunContract bs budget F T w (o .forms) (o .trace)
-  contract-of is o e w q = rw q (subst (λ (x : Outcome). RunContract bs budget F T (answerWord (x .answer)) (x .forms) (x .trace)) e (contract bs budget F T is))
+  -- what the call ensures
+  abbrev Ensures : ℕ → List ℕ → List ℕ → Type 0
+  Ensures w G U = Determined bs budget F T w G U × RunContract bs budget F T w G U
+
+  contract-of : Bytes bs → (o : Outcome) → call bs budget F T ≡ o → (w : ℕ) → w ≡ answerWord (o .answer) → Ensures w (o .forms) (o .trace)
+  contract-of is o e w q = rw q (subst (λ (x : Outcome). Ensures (answerWord (x .answer)) (x .forms) (x .trace)) e ((refl, refl, refl), contract bs budget F T is))
 
   -- ---- refusals
 
-  pub run-refused : Bytes bs → (n : ℕ) → asked bs budget (length T) ≡ refused n → (w : ℕ) → w ≡ answerWord (refusal n) → RunContract bs budget F T w F T
+  pub run-refused : Bytes bs → (n : ℕ) → asked bs budget (length T) ≡ refused n → (w : ℕ) → w ≡ answerWord (refusal n) → Ensures w F T
   run-refused is n e w q = contract-of is (record { answer = refusal n; forms = F; trace = T }) (kept bs budget F T .0 n e) w q
 
   pub first-refused : (n : ℕ) → read bs ≡ refused n → asked bs budget (length T) ≡ refused n
@@ -88,5 +92,5 @@ module _ (bs : List ℕ) (budget : ℕ) (F T : List ℕ) where
           let s = steps-few bs budget F T prob accepted _ _ _ e in
           (omega (arith, s), forms-fit bs budget F T prob accepted _ _ _ e)
 
-      pub run-ended : Bytes bs → (w : ℕ) → w ≡ answerWord (ended (verdictOf (endOf (c .stop)) (c .forms)) (c .steps) (c .forms)) → RunContract bs budget F T w G U
+      pub run-ended : Bytes bs → (w : ℕ) → w ≡ answerWord (ended (verdictOf (endOf (c .stop)) (c .forms)) (c .steps) (c .forms)) → Ensures w G U
       run-ended is w q = contract-of is (record { answer = ended (verdictOf (endOf (c .stop)) (c .forms)) (c .steps) (c .forms); forms = G; trace = U }) called w q

@@ -33,15 +33,19 @@ unfolding checkWord
 holds-word = refl
 
 module _ (bs hs : List ℕ) (is : Bytes bs) (are : Bytes hs) where
-  contract-of : (c : Checked) → check bs hs ≡ c → (w : ℕ) → w ≡ checkWord c → CheckContract bs hs w
-  contract-of c e w q = rw q (subst (λ (x : Checked). CheckContract bs hs (checkWord x)) e (contract bs hs is are))
+  -- what the call ensures
+  abbrev Ensures : ℕ → Type 0
+  Ensures w = (w ≡ checkWord (check bs hs)) × CheckContract bs hs w
+
+  contract-of : (c : Checked) → check bs hs ≡ c → (w : ℕ) → w ≡ checkWord c → Ensures w
+  contract-of c e w q = rw q (subst (λ (x : Checked). Ensures (checkWord x)) e (refl, contract bs hs is are))
 
   -- the word of a refusal is that of a run's
   declined-word : (n : ℕ) → answerWord (refusal n) ≡ checkWord (declined n)
   unfolding answerWord checkWord
   declined-word n = refl
 
-  pub check-declined : (n : ℕ) → check bs hs ≡ declined n → (w : ℕ) → w ≡ answerWord (refusal n) → CheckContract bs hs w
+  pub check-declined : (n : ℕ) → check bs hs ≡ declined n → (w : ℕ) → w ≡ answerWord (refusal n) → Ensures w
   check-declined n e w q = contract-of (declined n) e w (q ∙ declined-word n)
 
   pub problem-declined : (n : ℕ) → read bs ≡ refused n → check bs hs ≡ declined n
@@ -72,8 +76,8 @@ module _ (bs hs : List ℕ) (is : Bytes bs) (are : Bytes hs) where
             let x = rw p at e in
             rw (p, sym same-question ∙ a .1) (ap (λ (y : Option ℕ). found (parsed y)) (sym (lowest-seen bs tab o hs at prob p (a .0) (a .2)) ∙ x))
 
-        pub check-fails : r < tab .constraints → (w : ℕ) → w ≡ 6 + 256 * r → CheckContract bs hs w
+        pub check-fails : r < tab .constraints → (w : ℕ) → w ≡ 6 + 256 * r → Ensures w
         check-fails l w u = contract-of (FAILS r) (tested ∙ rw (lt-ltb r (tab .constraints) l) refl) w (u ∙ fails-word r)
 
-        pub check-holds : tab .constraints ≤ r → CheckContract bs hs 5
+        pub check-holds : tab .constraints ≤ r → Ensures 5
         check-holds l = contract-of HOLDS (tested ∙ rw (le-ltb r (tab .constraints) l) refl) 5 holds-word

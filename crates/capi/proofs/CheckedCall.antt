@@ -57,7 +57,6 @@ module _ (bytes assignment : List ℕ) (is : Bytes bytes) (are : Bytes assignmen
   pub contract : CheckContract bytes assignment word
   contract = record {
     bytewise = (is, are);
-    determined = refl;
     refusals = λ n. ((λ q. refusals bytes is .2 assignment are n .0 (refused-at n q (check bytes assignment) refl)), λ x. declined-word n (refusals bytes is .2 assignment are n .1 x));
     holds = ((λ q. says q (check bytes assignment) refl), said);
     fails = λ i. ((λ q. named i q (check bytes assignment) refl), naming i);

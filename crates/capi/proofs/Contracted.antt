@@ -24,7 +24,7 @@ use Rattle.calculus.proofs.ReadsWritten.{reads}
 use Rattle.calculus.proofs.Models.{models, verdicts}
 use Rattle.calculus.proofs.NoChoice.{one-way}
 use Rattle.calculus.proofs.WorkOrder.{run-goes}
-use Rattle.capi.specs.Contract.{verdictIn, numberIn, stepsIn, formsIn, listedIn, listedBytes, progressIn, Finished, Ran, RunContract}
+use Rattle.capi.specs.Contract.{verdictIn, numberIn, stepsIn, formsIn, listedIn, listedBytes, progressIn, Ran, RunContract}
 
 -- every verdict has its own number, and none is that of a refusal
 own-number : (v w : Verdict) → verdictNumber v ≡ verdictNumber w → v ≡ w
@@ -59,10 +59,10 @@ module _ (bytes : List ℕ) (budget : ℕ) (forms trace : List ℕ) where
   word = answerWord answer
 
   -- what the word says of a refusal, and of any other answer
-  refused-word : (n : ℕ) → answer ≡ refusal n → (verdictIn word ≡ 0) × (formsIn word ≡ 0) × (numberIn word ≡ n) × (stepsIn word ≡ 0)
+  pub refused-word : (n : ℕ) → answer ≡ refusal n → (verdictIn word ≡ 0) × (formsIn word ≡ 0) × (numberIn word ≡ n) × (stepsIn word ≡ 0)
   refused-word n e = let u = answers bytes .0 budget forms trace .0 n e in (u .verdict-is, u .forms-are, u .number-is, u .steps-are)
 
-  ended-word : (v : Verdict) (n c : ℕ) → answer ≡ ended v n c → (verdictIn word ≡ verdictNumber v) × (stepsIn word ≡ n) × (formsIn word ≡ c) × (numberIn word ≡ 0)
+  pub ended-word : (v : Verdict) (n c : ℕ) → answer ≡ ended v n c → (verdictIn word ≡ verdictNumber v) × (stepsIn word ≡ n) × (formsIn word ≡ c) × (numberIn word ≡ 0)
   ended-word v n c e = let u = answers bytes .0 budget forms trace .1 v n c e in (u .verdict-is, u .steps-are, u .forms-are, u .number-is)
 
   -- the problem of a call that is not refused
@@ -166,10 +166,10 @@ module _ (bytes : List ℕ) (budget : ℕ) (forms trace : List ℕ) where
     pub contract : RunContract bytes budget forms trace word (after .forms) (after .trace)
     contract = record {
       bytewise = is;
-      determined = (refl, refl, refl);
+      one-problem = λ p q v w. let x : parsed p ≡ parsed q = sym (reads bytes is p .1 v) ∙ reads bytes is q .1 w in cc;
       refusals = λ n. ((λ q. refusals bytes is .0 budget (length trace) n .0 (refusal-at n q answer refl)), λ x. refused-so n (refusals bytes is .0 budget (length trace) n .1 x));
-      untouched = λ q. untouched-at q answer refl;
-      unnumbered = λ q. unnumbered-at q answer refl;
+      untouched = λ n q. untouched-at (q .0) answer refl;
+      unnumbered = λ q. unnumbered-at (λ z. q (numberIn word) (z, refl)) answer refl;
       inside = let s = stays answer refl in (s .few, s .room, λ prob w. s .leaves prob w .fit);
       later-bytes = let s = stays answer refl in (s .long .0, s .long .1, s .later, λ prob w. s .leaves prob w .later);
       models = λ prob w. models-at prob (reads bytes is prob .1 w) answer refl;
@@ -177,7 +177,7 @@ module _ (bytes : List ℕ) (budget : ℕ) (forms trace : List ℕ) where
       same-solutions = λ q. same-at q answer refl;
       covers = λ q prob w g h. covers-at q prob (reads bytes is prob .1 w) g h answer refl;
       only-solutions = λ prob w g s. only-solutions prob (w .valid) g _ s;
-      order-of-work = λ q. order-at q answer refl;
+      order-of-work = λ q. order-at (λ z. q (numberIn word) (z, refl)) answer refl;
       short-paths = short;
     }
       where
@@ -214,22 +214,25 @@ module _ (bytes : List ℕ) (budget : ℕ) (forms trace : List ℕ) where
         unnumbered-at q (refusal n) e = absurd (q (refused-word n e .0))
         unnumbered-at q (ended v n c) e = ended-word v n c e .3
 
-        ends : Finished word → (v : Verdict) (n c : ℕ) → answer ≡ ended v n c → (v ≡ FORMS) ⊎ (v ≡ FALSE)
+        Ended : Type 0
+        Ended = (verdictIn word ≡ 1) ⊎ (verdictIn word ≡ 2)
+
+        ends : Ended → (v : Verdict) (n c : ℕ) → answer ≡ ended v n c → (v ≡ FORMS) ⊎ (v ≡ FALSE)
         ends (inl q) v n c e = which v (inl (sym (ended-word v n c e .0) ∙ q))
         ends (inr q) v n c e = which v (inr (sym (ended-word v n c e .0) ∙ q))
 
-        not-refused : Finished word → (n : ℕ) → answer ≡ refusal n → ⊥
+        not-refused : Ended → (n : ℕ) → answer ≡ refusal n → ⊥
         not-refused (inl q) n e = omega (arith, q, refused-word n e .0)
         not-refused (inr q) n e = omega (arith, q, refused-word n e .0)
 
-        covers-at : Finished word → (prob : Problem) → read bytes ≡ parsed prob → (g : Assignment) → Satisfies prob g → (a : Answer) → answer ≡ a → Some (λ r. (witness : Term → ℤ) × Agrees (termCount prob) (values prob g witness) r) (listedIn prob word (after .forms))
+        covers-at : Ended → (prob : Problem) → read bytes ≡ parsed prob → (g : Assignment) → Satisfies prob g → (a : Answer) → answer ≡ a → Some (λ r. (witness : Term → ℤ) × Agrees (termCount prob) (values prob g witness) r) (listedIn prob word (after .forms))
         covers-at q prob r g h (refusal n) e = absurd (not-refused q n e)
         covers-at q prob r g h (ended v n c) e = rw (ended-word v n c e .2) (covers bytes budget forms trace prob r v n c e (ends q v n c e) g h)
 
         Shared : Type 0
         Shared = (prob : Problem) × Written bytes prob × ((g : Assignment) → Satisfies prob g ↔ Some (SatisfiesForm prob g) (listedIn prob word (after .forms)))
 
-        same-at : Finished word → (a : Answer) → answer ≡ a → Shared
+        same-at : Ended → (a : Answer) → answer ≡ a → Shared
         same-at q (refusal n) e = absurd (not-refused q n e)
         same-at q (ended v n c) e =
             let a = accepted v n c e in

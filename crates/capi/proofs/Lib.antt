@@ -3,3 +3,4 @@ pub mod Contracted
 pub mod Calling
 pub mod CheckedCall
 pub mod CheckCalling
+pub mod Enough

@@ -1,4 +1,4 @@
--- The contracts of the two calls, over their bytes, their answer word, and the buffers as they leave them.
+-- The contracts of the two calls, over their bytes, their answer word, and the buffers as they leave them. Each call ensures its contract, and that what it answers and writes is the definition's.
 use mathlib.Core.Path.{_≡_}
 use mathlib.Core.Logic.{_↔_, _⊎_}
 use mathlib.Core.List.{List, [], _∷_}
@@ -14,7 +14,7 @@ use Rattle.calculus.specs.Encoding.{Bytes, Written, Handed, WrittenAssignment}
 use Rattle.calculus.specs.Questions.{FirstNoOfRun, FirstNoOfCheck}
 use Rattle.calculus.specs.Forms.{listedForms, Agrees, SatisfiesForm, modelNumber, model}
 use Rattle.calculus.specs.Check.{assignmentOf}
-use Rattle.calculus.specs.Calls.{Verdict, call, answerWord, verdictNumber, Checked, check, checkWord, checkedNumber}
+use Rattle.calculus.specs.Calls.{Verdict, Answer, call, answerNumber, answerWord, verdictNumber, Checked, check, checkWord, checkedNumber}
 use Rattle.calculus.specs.Order.{Progress, unbegun, Works}
 use Rattle.calculus.specs.Demands.{Shape, Valued}
 
@@ -44,11 +44,11 @@ listedBytes prob word = formsIn word * (3 * termCount prob)
 abbrev pub progressIn : Problem → ℕ → List ℕ → List ℕ → Progress
 progressIn prob word forms trace = record { steps = stepsIn word; forms = formsIn word; records = take (listedBytes prob word) forms; trace = take (4 * stepsIn word) trace }
 
--- ---- the run: forms and trace are the lent buffers as they were, forms′ and trace′ as the call leaves them
+-- the word says REFUSED, with number n
+abbrev pub RefusedIn : ℕ → ℕ → Type 0
+RefusedIn word n = (verdictIn word ≡ answerNumber (Answer.refusal n)) × (numberIn word ≡ n)
 
--- no branch was left: FORMS or FALSE
-abbrev pub Finished : ℕ → Type 0
-Finished word = (verdictIn word ≡ verdictNumber Verdict.FORMS) ⊎ (verdictIn word ≡ verdictNumber Verdict.FALSE)
+-- ---- the run: forms and trace are the lent buffers as they were, forms′ and trace′ as the call leaves them
 
 -- What the call has done is a run in document 01's order of work (Order.antt), and there is no other.
 pub record Ran (bytes : List ℕ) (budget : ℕ) (forms : List ℕ) (word : ℕ) (forms′ trace′ : List ℕ) : Type 0 where
@@ -64,13 +64,13 @@ pub record Ran (bytes : List ℕ) (budget : ℕ) (forms : List ℕ) (word : ℕ)
 pub record RunContract (bytes : List ℕ) (budget : ℕ) (forms trace : List ℕ) (word : ℕ) (forms′ trace′ : List ℕ) : Type 0 where
   -- What was lent as a problem is bytes.
   pub bytewise : Bytes bytes
-  -- The word and both buffers, every byte, are the definition's.
-  pub determined : (word ≡ answerWord (call bytes budget forms trace .answer)) × (forms′ ≡ call bytes budget forms trace .forms) × (trace′ ≡ call bytes budget forms trace .trace)
+  -- They are one problem at the most.
+  pub one-problem : (p q : Problem) → Written bytes p → Written bytes q → p ≡ q
   -- It is refused with number n exactly where question n is the first that is answered "no": 1 to 11 of the problem, then 12 and 13.
-  pub refusals : (n : ℕ) → ((verdictIn word ≡ 0) × (numberIn word ≡ n)) ↔ FirstNoOfRun bytes budget (length trace) n
+  pub refusals : (n : ℕ) → RefusedIn word n ↔ FirstNoOfRun bytes budget (length trace) n
   -- A refusal counts nothing and writes nothing; any other answer has no number.
-  pub untouched : verdictIn word ≡ 0 → (stepsIn word ≡ 0) × (formsIn word ≡ 0) × (forms′ ≡ forms) × (trace′ ≡ trace)
-  pub unnumbered : ¬ (verdictIn word ≡ 0) → numberIn word ≡ 0
+  pub untouched : (n : ℕ) → RefusedIn word n → (stepsIn word ≡ 0) × (formsIn word ≡ 0) × (forms′ ≡ forms) × (trace′ ≡ trace)
+  pub unnumbered : ((n : ℕ) → ¬ RefusedIn word n) → numberIn word ≡ 0
   -- What is written stays inside what was lent.
   pub inside : (stepsIn word ≤ budget) × (4 * stepsIn word ≤ length trace) × ((prob : Problem) → Written bytes prob → listedBytes prob word ≤ length forms)
   -- Later bytes of both buffers stay as they were.
@@ -82,16 +82,22 @@ pub record RunContract (bytes : List ℕ) (budget : ℕ) (forms trace : List ℕ
   -- FALSE is said only of a problem that no assignment satisfies.
   pub no-false-alarm : verdictIn word ≡ verdictNumber Verdict.FALSE → (prob : Problem) × Written bytes prob × ((g : Assignment) → ¬ Satisfies prob g)
   -- After FORMS and FALSE the problem, as its bytes are written, and the listed records share exactly the same solutions.
-  pub same-solutions : Finished word → (prob : Problem) × Written bytes prob × ((g : Assignment) → Satisfies prob g ↔ Some (SatisfiesForm prob g) (listedIn prob word forms′))
+  pub same-solutions : (verdictIn word ≡ verdictNumber Verdict.FORMS) ⊎ (verdictIn word ≡ verdictNumber Verdict.FALSE)
+      → (prob : Problem) × Written bytes prob × ((g : Assignment) → Satisfies prob g ↔ Some (SatisfiesForm prob g) (listedIn prob word forms′))
   -- Its first half: every solution, with some whole numbers for the witnesses, agrees with the merges and facts of some listed record.
-  pub covers : Finished word → (prob : Problem) → Written bytes prob → (g : Assignment) → Satisfies prob g
+  pub covers : (verdictIn word ≡ verdictNumber Verdict.FORMS) ⊎ (verdictIn word ≡ verdictNumber Verdict.FALSE)
+      → (prob : Problem) → Written bytes prob → (g : Assignment) → Satisfies prob g
       → Some (λ r. (witness : Term → ℤ) × Agrees (termCount prob) (values prob g witness) r) (listedIn prob word forms′)
   -- Its second half, however the run ended: what satisfies a listed record is a solution.
   pub only-solutions : (prob : Problem) → Written bytes prob → (g : Assignment) → Some (SatisfiesForm prob g) (listedIn prob word forms′) → Satisfies prob g
   -- Unless it is refused, the verdict, counts, records and trace are those of document 01's order of work, which leaves no choice.
-  pub order-of-work : ¬ (verdictIn word ≡ 0) → Ran bytes budget forms word forms′ trace′
+  pub order-of-work : ((n : ℕ) → ¬ RefusedIn word n) → Ran bytes budget forms word forms′ trace′
   -- No path of that run, to a form, a closed branch or the branch where it stopped, is longer than terms × (sets + 1).
   pub short-paths : (r : Ran bytes budget forms word forms′ trace′) → Each (λ d. d ≤ termCount (r .prob) * suc (setCount (r .prob))) (r .paths)
+
+-- The word and both buffers, every byte, are the definition's.
+abbrev pub Determined : (bytes : List ℕ) (budget : ℕ) (forms trace : List ℕ) (word : ℕ) (forms′ trace′ : List ℕ) → Type 0
+Determined bytes budget forms trace word forms′ trace′ = (word ≡ answerWord (call bytes budget forms trace .answer)) × (forms′ ≡ call bytes budget forms trace .forms) × (trace′ ≡ call bytes budget forms trace .trace)
 
 -- ---- the assignment check
 
@@ -107,15 +113,18 @@ pub record Given (bytes assignment : List ℕ) (prob : Problem) (g : Handed) : T
 pub record CheckContract (bytes assignment : List ℕ) (word : ℕ) : Type 0 where
   -- What was lent as a problem, and as an assignment, is bytes.
   pub bytewise : Bytes bytes × Bytes assignment
-  -- The word is the definition's.
-  pub determined : word ≡ checkWord (check bytes assignment)
   -- It is refused with number n exactly where question n is the first that is answered "no": 1 to 11 of the problem, then 14 of the assignment.
-  pub refusals : (n : ℕ) → ((verdictIn word ≡ 0) × (numberIn word ≡ n)) ↔ FirstNoOfCheck bytes assignment n
+  pub refusals : (n : ℕ) → ((verdictIn word ≡ checkedNumber (Checked.declined n)) × (numberIn word ≡ n)) ↔ FirstNoOfCheck bytes assignment n
   -- HOLDS is said exactly where the assignment satisfies the problem.
   pub holds : (verdictIn word ≡ checkedNumber Checked.HOLDS) ↔ ((prob : Problem) × (g : Handed) × Given bytes assignment prob g × Satisfies prob (assignmentOf g))
   -- FAILS names constraint i (its number is in the word; the verdict is the same for every i) exactly where that is false of the assignment and all lower ones are true of it.
   pub fails : (i : ℕ) → ((verdictIn word ≡ checkedNumber (Checked.FAILS i)) × (numberIn word ≡ i))
       ↔ ((prob : Problem) × (g : Handed) × Given bytes assignment prob g × (i < length (prob .constraints)) × ¬ TrueAt prob g i × ((j : ℕ) → j < i → TrueAt prob g j))
   -- There is no other verdict; HOLDS has no number, and no check counts steps or forms.
-  pub nothing-else : ((verdictIn word ≡ 0) ⊎ ((verdictIn word ≡ checkedNumber Checked.HOLDS) ⊎ (verdictIn word ≡ checkedNumber (Checked.FAILS (numberIn word)))))
+  pub nothing-else : ((verdictIn word ≡ checkedNumber (Checked.declined (numberIn word))) ⊎ ((verdictIn word ≡ checkedNumber Checked.HOLDS) ⊎ (verdictIn word ≡ checkedNumber (Checked.FAILS (numberIn word)))))
       × (verdictIn word ≡ checkedNumber Checked.HOLDS → numberIn word ≡ 0) × (stepsIn word ≡ 0) × (formsIn word ≡ 0)
+
+-- Each contract alone leaves no choice: what meets it is what the definition gives.
+abbrev pub Enough : Type 0
+Enough = ((bytes : List ℕ) (budget : ℕ) (forms trace : List ℕ) (word : ℕ) (forms′ trace′ : List ℕ) → RunContract bytes budget forms trace word forms′ trace′ → Determined bytes budget forms trace word forms′ trace′)
+    × ((bytes assignment : List ℕ) (word : ℕ) → CheckContract bytes assignment word → word ≡ checkWord (check bytes assignment))

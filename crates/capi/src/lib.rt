@@ -6,8 +6,8 @@ use problem::read;
 use solver::solve;
 ghost use mathlib.Core.Path.{_≡_};
 ghost use Prim.Native.Nat.{_≤_};
-ghost use Rattle.calculus.specs.Calls.{refusal, ended, verdictOf, answerWord};
-ghost use Rattle.capi.specs.Contract.{RunContract, CheckContract};
+ghost use Rattle.calculus.specs.Calls.{refusal, ended, verdictOf, answerWord, check, checkWord};
+ghost use Rattle.capi.specs.Contract.{RunContract, Determined, CheckContract};
 ghost use Rattle.output.specs.State.{endOf};
 
 // The word of a refusal.
@@ -45,7 +45,7 @@ pub extern "C" fn fuselinda_run(
     forms: &mut [u8],
     trace: &mut [u8],
 ) -> u64
-    ensures { λ r. ⌜ RunContract (now (problem .entry)) budget (now (forms .entry)) (now (trace .entry)) r (now (forms .exit)) (now (trace .exit)) ⌝ }
+    ensures { λ r. ⌜ Determined (now (problem .entry)) budget (now (forms .entry)) (now (trace .entry)) r (now (forms .exit)) (now (trace .exit)) × RunContract (now (problem .entry)) budget (now (forms .entry)) (now (trace .entry)) r (now (forms .exit)) (now (trace .exit)) ⌝ }
 {
     let tab = read(problem);
     let n = tab.refusal;
@@ -65,7 +65,7 @@ pub extern "C" fn fuselinda_run(
 // Checks an assignment that was worked by hand.
 #[no_mangle]
 pub extern "C" fn fuselinda_check(problem: &[u8], assignment: &[u8]) -> u64
-    ensures { λ r. ⌜ CheckContract (now (problem .entry)) (now (assignment .entry)) r ⌝ }
+    ensures { λ r. ⌜ (r ≡ checkWord (check (now (problem .entry)) (now (assignment .entry)))) × CheckContract (now (problem .entry)) (now (assignment .entry)) r ⌝ }
 {
     let tab = read(problem);
     let question = tab.refusal;

@@ -5,7 +5,7 @@ use mathlib.Core.Bool.{true, false, false≢true}
 use mathlib.Core.List.{List, [], _∷_}
 use Prim.Native.Nat.{ℕ, zero, suc, _+_, _*_, _/_, _<_}
 use native.Mathlib.Omega.{arith}
-use lib.IntN.{ℤ, pos}
+use lib.IntN.{ℤ, pos, negsuc}
 use lib.ListN.{getD}
 use Rattle.calculus.specs.Lists.{bit}
 use Rattle.calculus.specs.Terms.{Term, term, SetVar, setVar}
@@ -14,6 +14,7 @@ use Rattle.calculus.specs.Meaning.{_∈_, Valuation, member, exactly, relation}
 use Rattle.calculus.specs.Problem.{Problem, Assignment, Satisfies}
 use Rattle.calculus.specs.Reading.{parsed, _>>=_, ask, byte, bytes, readConstraints, readSets, readVariables, readConstants, read, eqZ}
 use Rattle.calculus.specs.Forms.{Agrees, SatisfiesForm}
+use Rattle.calculus.specs.Demands.{Shape}
 use Rattle.calculus.proofs.Masks.{bit-zero}
 
 -- the numbers of the variables and the members of the sets, in order
@@ -163,3 +164,31 @@ not-merged = record {
   but-for = (unwitnessed, three _ 0 1 2 refl refl refl (inr (inl refl)) (inl refl) (inr (inl refl)), as-x-holds);
   takes = (unwitnessed, three _ 0 1 0 refl refl refl (inr (inl refl)) (inl refl) (inr (inl refl)), as-x-holds);
 }
+
+-- ---- numbers of any size: x in A
+
+abbrev x-in-A : Problem
+x-in-A = record { constants = []; variables = 120 ∷ []; sets = 65 ∷ []; witnesses = 0; constraints = member (term 0) (setVar 0) ∷ [] }
+
+-- x = 100,000 and x = −100,000, A = {x}
+pub any-number : Satisfies x-in-A (assigned (pos 100000 ∷ []) ((pos 100000 ∷ []) ∷ [])) × Satisfies x-in-A (assigned (negsuc 99999 ∷ []) ((negsuc 99999 ∷ []) ∷ []))
+any-number = ((inl refl, tt), (inl refl, tt))
+
+-- ---- what is no record's shape: of constants 3 and 4 and a variable x, with sets A and B
+
+abbrev shaped : Problem
+shaped = record { constants = pos 3 ∷ pos 4 ∷ []; variables = 120 ∷ []; sets = 65 ∷ 66 ∷ []; witnesses = 0; constraints = [] }
+
+-- a byte too few; a root that is not the lowest; a root that is not its own; two constants with one root; masks that are not the root's; a third set; in and out of B
+pub no-shape : (¬ Shape shaped (0 ∷ 0 ∷ 0 ∷ 1 ∷ 0 ∷ 0 ∷ 2 ∷ 0 ∷ [])) × (¬ Shape shaped (2 ∷ 0 ∷ 0 ∷ 1 ∷ 0 ∷ 0 ∷ 2 ∷ 0 ∷ 0 ∷ [])) × (¬ Shape shaped (0 ∷ 0 ∷ 0 ∷ 1 ∷ 0 ∷ 0 ∷ 3 ∷ 0 ∷ 0 ∷ []))
+    × (¬ Shape shaped (0 ∷ 0 ∷ 0 ∷ 0 ∷ 0 ∷ 0 ∷ 2 ∷ 0 ∷ 0 ∷ [])) × (¬ Shape shaped (0 ∷ 1 ∷ 0 ∷ 1 ∷ 0 ∷ 0 ∷ 0 ∷ 0 ∷ 0 ∷ [])) × (¬ Shape shaped (0 ∷ 4 ∷ 0 ∷ 1 ∷ 0 ∷ 0 ∷ 2 ∷ 0 ∷ 0 ∷ []))
+    × (¬ Shape shaped (0 ∷ 2 ∷ 2 ∷ 1 ∷ 0 ∷ 0 ∷ 2 ∷ 0 ∷ 0 ∷ []))
+no-shape = (
+  (λ s. omega (arith, s .long)),
+  (λ s. omega (arith, s .lowest 0 0 (omega arith) (omega arith) refl)),
+  (λ s. omega (arith, s .own 2 (omega arith))),
+  (λ s. omega (arith, s .constants 0 1 (omega arith) (omega arith) refl)),
+  (λ s. omega (arith, s .shows 2 (omega arith) .0)),
+  (λ s. omega (arith, s .masks 0 (omega arith) .0)),
+  (λ s. s .clear 0 1 (omega arith) refl refl),
+)

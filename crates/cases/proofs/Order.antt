@@ -2,7 +2,7 @@
 use mathlib.Core.Path.{_≡_, refl}
 use mathlib.Core.List.{List, [], _∷_, map}
 use lib.ListN.{replicate}
-use Rattle.calculus.specs.Calls.{FORMS, FALSE, ended}
+use Rattle.calculus.specs.Calls.{FORMS, FALSE, SPENT, ended}
 use Rattle.cases.proofs.Rows.{Row, run, expected, given}
 
 unfoldable pub table : List Row
@@ -105,6 +105,16 @@ table =
     ∷ run (0 ∷ 4 ∷ 97 ∷ 98 ∷ 99 ∷ 100 ∷ 0 ∷ 3 ∷ 3 ∷ 0 ∷ 2 ∷ 3 ∷ 1 ∷ 3 ∷ 3 ∷ 2 ∷ 3 ∷ []) 12 192 48 (ended FORMS 3 1) (replicate 12 0) (3 ∷ 0 ∷ 0 ∷ 1 ∷ 3 ∷ 1 ∷ 1 ∷ 1 ∷ 3 ∷ 2 ∷ 0 ∷ 1 ∷ [])
     -- two constants meet through variables: x = 3, y = 4, x = y
     ∷ run (2 ∷ 3 ∷ 0 ∷ 4 ∷ 0 ∷ 2 ∷ 120 ∷ 121 ∷ 0 ∷ 3 ∷ 3 ∷ 2 ∷ 0 ∷ 3 ∷ 3 ∷ 1 ∷ 3 ∷ 2 ∷ 3 ∷ []) 12 192 48 (ended FALSE 3 0) [] (3 ∷ 0 ∷ 2 ∷ 1 ∷ 3 ∷ 1 ∷ 3 ∷ 1 ∷ 3 ∷ 2 ∷ 0 ∷ 0 ∷ [])
+    -- rule 4 and rule 1 compete, the constraint decides: x in A, x ≠ x
+    ∷ run (0 ∷ 1 ∷ 120 ∷ 1 ∷ 65 ∷ 2 ∷ 1 ∷ 0 ∷ 0 ∷ 4 ∷ 0 ∷ 0 ∷ []) 12 192 48 (ended FALSE 2 0) [] (1 ∷ 0 ∷ 0 ∷ 1 ∷ 4 ∷ 1 ∷ 0 ∷ 0 ∷ [])
+    -- the same, in the other order: x ≠ x, x in A
+    ∷ run (0 ∷ 1 ∷ 120 ∷ 1 ∷ 65 ∷ 2 ∷ 4 ∷ 0 ∷ 0 ∷ 1 ∷ 0 ∷ 0 ∷ []) 12 192 48 (ended FALSE 1 0) [] (4 ∷ 0 ∷ 0 ∷ 0 ∷ [])
+    -- splits 20 and 12 compete, the constraint decides: D = {a, b}, C = A ∪ B, x in D, x in C
+    ∷ run (0 ∷ 3 ∷ 97 ∷ 98 ∷ 120 ∷ 4 ∷ 65 ∷ 66 ∷ 67 ∷ 68 ∷ 4 ∷ 11 ∷ 3 ∷ 2 ∷ 0 ∷ 1 ∷ 7 ∷ 0 ∷ 1 ∷ 2 ∷ 1 ∷ 2 ∷ 3 ∷ 1 ∷ 2 ∷ 2 ∷ []) 5 192 20 (ended SPENT 5 0) [] (19 ∷ 0 ∷ 0 ∷ 1 ∷ 19 ∷ 0 ∷ 1 ∷ 1 ∷ 1 ∷ 2 ∷ 2 ∷ 1 ∷ 1 ∷ 3 ∷ 2 ∷ 1 ∷ 20 ∷ 0 ∷ 2 ∷ 2 ∷ [])
+    -- splits 7 and 12 compete, the constraint decides: A ≠ B, C = A ∪ B, x in C
+    ∷ run (0 ∷ 1 ∷ 120 ∷ 3 ∷ 65 ∷ 66 ∷ 67 ∷ 3 ∷ 6 ∷ 0 ∷ 1 ∷ 7 ∷ 0 ∷ 1 ∷ 2 ∷ 1 ∷ 0 ∷ 2 ∷ []) 2 192 8 (ended SPENT 2 0) [] (1 ∷ 2 ∷ 0 ∷ 1 ∷ 7 ∷ 0 ∷ 1 ∷ 2 ∷ [])
+    -- splits 7 and 20 compete, the constraint decides: A ≠ B, C = {a, b}, x in C
+    ∷ run (0 ∷ 3 ∷ 97 ∷ 98 ∷ 120 ∷ 3 ∷ 65 ∷ 66 ∷ 67 ∷ 3 ∷ 6 ∷ 0 ∷ 1 ∷ 11 ∷ 2 ∷ 2 ∷ 0 ∷ 1 ∷ 1 ∷ 2 ∷ 2 ∷ []) 4 192 16 (ended SPENT 4 0) [] (19 ∷ 1 ∷ 0 ∷ 1 ∷ 19 ∷ 1 ∷ 1 ∷ 1 ∷ 1 ∷ 2 ∷ 2 ∷ 1 ∷ 7 ∷ 0 ∷ 3 ∷ 2 ∷ [])
     ∷ []
 
 pub rows-hold : map given table ≡ map expected table

@@ -1,7 +1,7 @@
--- C1's run in the order of work, with the lengths of its paths: 5 to the branch that rule 4 closes, 4 to the form, through the split's second child.
+-- The runs of C1, C2 and C3 in the order of work, with the lengths of their paths: 5 to the branch that rule 4 closes, 4 to the form, through the split's second child, and 4 to where C2 is spent.
 use mathlib.Core.Path.{_≡_, refl}
 use mathlib.Core.List.{List, [], _∷_}
-use Prim.Native.Nat.{ℕ}
+use Prim.Native.Nat.{ℕ, _≤_}
 use native.Mathlib.Omega.{arith}
 use lib.IntN.{pos}
 use lib.ListN.{getD}
@@ -12,8 +12,8 @@ use Rattle.calculus.specs.Problem.{Problem}
 use Rattle.calculus.specs.Branch.{Branch, start, assert, rootAt, inside, outside, addInside, addOutside, merge, torn}
 use Rattle.calculus.specs.Search.{solved, step, next}
 use Rattle.calculus.specs.Run.{nextOf}
-use Rattle.calculus.specs.Calls.{FORMS}
-use Rattle.calculus.specs.Order.{Recorded, Solved, StepOf, PathTo, begin, onward, unbegun, withForm, withStep, Works, all-worked, listing, closing, stepping}
+use Rattle.calculus.specs.Calls.{Verdict, FORMS, SPENT, NOROOM}
+use Rattle.calculus.specs.Order.{Recorded, Solved, StepOf, PathTo, begin, onward, Progress, unbegun, withForm, withStep, Works, all-worked, listing, no-room, spending, closing, stepping}
 use Rattle.calculus.proofs.FirstPlace.{first-place}
 use Rattle.calculus.proofs.RecordLaws.{records}
 
@@ -85,18 +85,43 @@ path₃ = onward (onward (onward begin step₁ (here refl)) step₂ (here refl))
 pub path-to-form : PathTo c1 4 b₅
 path-to-form = onward path₃ step₄ (there (here refl))
 
--- the whole run
-pub run : Works c1 5 9 ((0, start 3) ∷ []) unbegun FORMS (record { steps = 5; forms = 1; records = form; trace = 1 ∷ 0 ∷ 2 ∷ 1 ∷ 19 ∷ 1 ∷ 0 ∷ 1 ∷ 19 ∷ 1 ∷ 1 ∷ 1 ∷ 20 ∷ 1 ∷ 2 ∷ 2 ∷ 4 ∷ 2 ∷ 0 ∷ 0 ∷ [] }) (5 ∷ 4 ∷ [])
-run =
-    let s₁ = withStep unbegun (1 ∷ 0 ∷ 2 ∷ 1 ∷ []) in
-    let s₂ = withStep s₁ (19 ∷ 1 ∷ 0 ∷ 1 ∷ []) in
-    let s₃ = withStep s₂ (19 ∷ 1 ∷ 1 ∷ 1 ∷ []) in
-    let s₄ = withStep s₃ (20 ∷ 1 ∷ 2 ∷ 2 ∷ []) in
-    let s₅ = withStep s₄ (4 ∷ 2 ∷ 0 ∷ 0 ∷ []) in
-    stepping {s = unbegun} begin step₁ (λ e. omega (arith, e))
-    (stepping {s = s₁} (onward begin step₁ (here refl)) step₂ (λ e. omega (arith, e))
-    (stepping {s = s₂} (onward (onward begin step₁ (here refl)) step₂ (here refl)) step₃ (λ e. omega (arith, e))
-    (stepping {s = s₃} path₃ step₄ (λ e. omega (arith, e))
+-- what was done after each step
+abbrev s₁ : Progress
+s₁ = withStep unbegun (1 ∷ 0 ∷ 2 ∷ 1 ∷ [])
+
+abbrev s₂ : Progress
+s₂ = withStep s₁ (19 ∷ 1 ∷ 0 ∷ 1 ∷ [])
+
+abbrev s₃ : Progress
+s₃ = withStep s₂ (19 ∷ 1 ∷ 1 ∷ 1 ∷ [])
+
+abbrev s₄ : Progress
+s₄ = withStep s₃ (20 ∷ 1 ∷ 2 ∷ 2 ∷ [])
+
+abbrev s₅ : Progress
+s₅ = withStep s₄ (4 ∷ 2 ∷ 0 ∷ 0 ∷ [])
+
+-- the four steps before the split's children, with a budget of four or more
+first-steps : (budget room : ℕ) (v : Verdict) (e : Progress) (ps : List ℕ) → 4 ≤ budget → Works c1 budget room ((4, b₄) ∷ (4, b₅) ∷ []) s₄ v e ps → Works c1 budget room ((0, b₀) ∷ []) unbegun v e ps
+first-steps budget room v e ps l w =
+    stepping {s = unbegun} begin step₁ (λ q. omega (arith, q))
+    (stepping {s = s₁} (onward begin step₁ (here refl)) step₂ (λ q. omega (arith, q))
+    (stepping {s = s₂} (onward (onward begin step₁ (here refl)) step₂ (here refl)) step₃ (λ q. omega (arith, q))
+    (stepping {s = s₃} path₃ step₄ (λ q. omega (arith, q)) w)))
+
+-- C1: the whole run
+pub run : Works c1 5 9 ((0, b₀) ∷ []) unbegun FORMS (record { steps = 5; forms = 1; records = form; trace = 1 ∷ 0 ∷ 2 ∷ 1 ∷ 19 ∷ 1 ∷ 0 ∷ 1 ∷ 19 ∷ 1 ∷ 1 ∷ 1 ∷ 20 ∷ 1 ∷ 2 ∷ 2 ∷ 4 ∷ 2 ∷ 0 ∷ 0 ∷ [] }) (5 ∷ 4 ∷ [])
+run = first-steps 5 9 _ _ _ (omega arith)
     (closing {s = s₄} (onward path₃ step₄ (here refl)) step₅ (λ e. omega (arith, e))
     (listing {s = s₅} path-to-form is-form its-record (omega arith)
-    (all-worked {s = withForm s₅ form} (λ e. omega (arith, e))))))))
+    (all-worked {s = withForm s₅ form} (λ e. omega (arith, e)))))
+
+-- C2: SPENT in the split's first child, 4 steps from the start
+pub spent : Works c1 4 9 ((0, b₀) ∷ []) unbegun SPENT (record { steps = 4; forms = 0; records = []; trace = 1 ∷ 0 ∷ 2 ∷ 1 ∷ 19 ∷ 1 ∷ 0 ∷ 1 ∷ 19 ∷ 1 ∷ 1 ∷ 1 ∷ 20 ∷ 1 ∷ 2 ∷ 2 ∷ [] }) (4 ∷ [])
+spent = first-steps 4 9 _ _ _ (omega arith) (spending {s = s₄} (onward path₃ step₄ (here refl)) step₅ refl)
+
+-- C3: NO ROOM at the form, 4 steps from the start, after the closed branch
+pub no-room-left : Works c1 5 8 ((0, b₀) ∷ []) unbegun NOROOM (record { steps = 5; forms = 0; records = []; trace = 1 ∷ 0 ∷ 2 ∷ 1 ∷ 19 ∷ 1 ∷ 0 ∷ 1 ∷ 19 ∷ 1 ∷ 1 ∷ 1 ∷ 20 ∷ 1 ∷ 2 ∷ 2 ∷ 4 ∷ 2 ∷ 0 ∷ 0 ∷ [] }) (5 ∷ 4 ∷ [])
+no-room-left = first-steps 5 8 _ _ _ (omega arith)
+    (closing {s = s₄} (onward path₃ step₄ (here refl)) step₅ (λ e. omega (arith, e))
+    (no-room {s = s₅} path-to-form is-form its-record (omega arith)))

@@ -122,6 +122,12 @@ table =
     ∷ run (1 ∷ 3 ∷ 0 ∷ 1 ∷ 120 ∷ 1 ∷ 65 ∷ 2 ∷ 2 ∷ 1 ∷ 0 ∷ 11 ∷ 0 ∷ 1 ∷ 0 ∷ []) 12 192 48 (ended FORMS 2 1) (0 ∷ 1 ∷ 0 ∷ 1 ∷ 0 ∷ 1 ∷ []) (2 ∷ 0 ∷ 1 ∷ 1 ∷ 19 ∷ 1 ∷ 0 ∷ 1 ∷ [])
     -- x ≠ y drops no child of rule 20: y in A, A = {x}, x ≠ y
     ∷ run (0 ∷ 2 ∷ 120 ∷ 121 ∷ 1 ∷ 65 ∷ 3 ∷ 1 ∷ 1 ∷ 0 ∷ 11 ∷ 0 ∷ 1 ∷ 0 ∷ 4 ∷ 0 ∷ 1 ∷ []) 12 192 48 (ended FALSE 4 0) [] (1 ∷ 0 ∷ 1 ∷ 1 ∷ 19 ∷ 1 ∷ 0 ∷ 1 ∷ 20 ∷ 1 ∷ 1 ∷ 1 ∷ 4 ∷ 2 ∷ 0 ∷ 0 ∷ [])
+    -- no rule of an intersection says that what is out of B is out of C: x not in B, C = A ∩ B
+    ∷ run (0 ∷ 1 ∷ 120 ∷ 3 ∷ 65 ∷ 66 ∷ 67 ∷ 2 ∷ 2 ∷ 0 ∷ 1 ∷ 10 ∷ 0 ∷ 1 ∷ 2 ∷ []) 12 192 48 (ended FORMS 1 1) (0 ∷ 0 ∷ 2 ∷ []) (2 ∷ 0 ∷ 0 ∷ 1 ∷ [])
+    -- nor that what is in B and out of C is out of A: x in B, x not in C, C = A ∩ B
+    ∷ run (0 ∷ 1 ∷ 120 ∷ 3 ∷ 65 ∷ 66 ∷ 67 ∷ 3 ∷ 1 ∷ 0 ∷ 1 ∷ 2 ∷ 0 ∷ 2 ∷ 10 ∷ 0 ∷ 1 ∷ 2 ∷ []) 12 192 48 (ended FORMS 2 1) (0 ∷ 2 ∷ 4 ∷ []) (1 ∷ 0 ∷ 0 ∷ 1 ∷ 2 ∷ 1 ∷ 0 ∷ 1 ∷ [])
+    -- no rule of a union says that what is out of A and of B is out of C: x not in A, x not in B, C = A ∪ B
+    ∷ run (0 ∷ 1 ∷ 120 ∷ 3 ∷ 65 ∷ 66 ∷ 67 ∷ 3 ∷ 2 ∷ 0 ∷ 0 ∷ 2 ∷ 0 ∷ 1 ∷ 7 ∷ 0 ∷ 1 ∷ 2 ∷ []) 12 192 48 (ended FORMS 2 1) (0 ∷ 0 ∷ 3 ∷ []) (2 ∷ 0 ∷ 0 ∷ 1 ∷ 2 ∷ 1 ∷ 0 ∷ 1 ∷ [])
     ∷ []
 
 pub rows-hold : map given table ≡ map expected table

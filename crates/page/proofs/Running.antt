@@ -6,14 +6,14 @@ use native.Mathlib.Omega.{arith}
 use lib.ListN.{length, take, drop, replicate, length-append}
 use lib.Seq.{take-at}
 use Rattle.calculus.specs.Calls.{over}
-use Rattle.capi.specs.Contract.{RunContract}
+use Rattle.capi.specs.Contract.{Determined}
 use Rattle.page.specs.Listing.{programCall}
 use Rattle.page.specs.Writing.{Ran}
 
 -- its call leaves the word and the form buffer that the lines are made from
-pub ran : (bytes : List ℕ) (word : ℕ) (forms trace : List ℕ) → RunContract bytes 1000 (replicate 32768 0) (replicate 4000 0) word forms trace → Ran bytes word forms
+pub ran : (bytes : List ℕ) (word : ℕ) (forms trace : List ℕ) → Determined bytes 1000 (replicate 32768 0) (replicate 4000 0) word forms trace → Ran bytes word forms
 unfolding programCall
-ran bytes word forms trace c = record { word-is = c .determined .0; forms-are = c .determined .1 }
+ran bytes word forms trace c = record { word-is = c .0; forms-are = c .1 }
 
 -- a line is within its buffer
 pub within : (s d d₁ : List ℕ) (e : ℕ) → d₁ ≡ over s d → e ≡ length s → (e ≤ length d₁) × (e ≡ length (take e d₁))

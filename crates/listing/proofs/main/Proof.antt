@@ -39,7 +39,7 @@ lines-requires : tie.Need-lines-requires Inv-loop μ-loop
 lines-requires c κs = search needs
 
 loop-holds : tie.Need-loop-holds Inv-loop μ-loop
-loop-holds c = (omega arith, length-replicate {A = ℕ} 32768 0, ran _ _ _ _ (c .before .before .before .fuselinda-run .ensures))
+loop-holds c = (omega arith, length-replicate {A = ℕ} 32768 0, ran _ _ _ _ (c .before .before .before .fuselinda-run .ensures .0))
 
 slice-aggregate-line : tie.Need-slice-aggregate-line Inv-loop μ-loop
 slice-aggregate-line c = search needs
