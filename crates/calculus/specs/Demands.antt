@@ -100,7 +100,7 @@ Ordered = (prob : Problem) (b : Branch) (p q : Place) → Enabled prob b p → E
 abbrev pub FirstPlace : Type 0
 FirstPlace = (prob : Problem) (b : Branch) → (nextOf prob b ≡ solved ↔ Solved prob b) × ((r : List ℕ) (cs : List Branch) → nextOf prob b ≡ step r cs ↔ StepOf prob b r cs)
 
--- Its children are those that a step leaves, and those of rule 20 stand once each, in the order of their first entries.
+-- The children that Search.antt computes are those that a step leaves: asserting all facts, dropping what conflicts, and rule 20's classes once each, in the order of their first entries.
 abbrev pub Children : Type 0
 Children = ((constants : List Term) (b : Branch) →
     ((fs : List Fact) (o : Option Branch) → AssertsAll constants b fs o ↔ (assertAll constants b fs ≡ o))
@@ -111,7 +111,7 @@ Children = ((constants : List Term) (b : Branch) →
 abbrev pub Records : Type 0
 Records = (n : ℕ) (b : Branch) (r : List ℕ) → Recorded n b r ↔ (recordOf n b ≡ r)
 
--- And it states exactly that: a valuation agrees with it where every fact that the branch knows is true.
+-- And it states exactly that: a valuation agrees with it exactly where every fact that the branch knows is true of it.
 abbrev pub States : Type 0
 States = (n : ℕ) (constants : List Term) (m : ℕ) (b : Branch) → Reached n constants m b → (v : Valuation) →
     Agrees n v (recordOf n b) ↔ ((k : ℕ) (f : Fact) → Ranged n k f → known b f ≡ true → TrueOf v f)

@@ -1,4 +1,4 @@
--- What a record states beyond the problem's constraints: assignments that satisfy a problem and one of its records, but not the other.
+-- What a record states beyond the problem's constraints: assignments that satisfy a problem and one of its records, but not the other. Then solutions with large numbers, and lists that have not the shape of a record.
 use mathlib.Core.Path.{_≡_, refl, sym, _∙_, ap}
 use mathlib.Core.Logic.{_⊎_, inl, inr}
 use mathlib.Core.Bool.{true, false, false≢true}
