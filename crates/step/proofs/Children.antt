@@ -6,15 +6,18 @@ use mathlib.Core.List.{List, [], map}
 use Prim.Native.Nat.{ℕ, _^_, _≤_, _<_}
 use native.Mathlib.Omega.{arith}
 use lib.ListN.{length, getD}
-use Rattle.calculus.specs.Terms.{Term, SetVar, term, setVar, termsFrom}
-use Rattle.calculus.specs.Relations.{Relation, equal, union, disjoint, subset, intersection, Negation, unequal}
+use Rattle.calculus.specs.Terms.{Term, SetVar, term, setVar}
+use Rattle.calculus.specs.Relations.{Operand, Relation, equal, union, disjoint, subset, intersection, Negation, unequal}
 use Rattle.calculus.specs.Meaning as meaning
 use Rattle.calculus.specs.Meaning.{member, nonmember, same, different, relation, negation, exactly, interval, entries}
-use Rattle.calculus.specs.Branch.{Branch, Fact, In, Out, Same, assert, assertAll}
+use Rattle.calculus.specs.Relations.{operandOf}
+use Rattle.calculus.specs.Branch.{Branch, rootAt, In, Out, Same, assert, assertAll}
 use Rattle.calculus.specs.Invariants.{Falls}
 use Rattle.branch.specs.Held.{rootOf}
+use Rattle.calculus.proofs.Sequences.{each-at}
+use Rattle.branch.proofs.Roots.{root-is}
 use Rattle.branch.proofs.Laws.{assert-any, assert-any-out}
-use Rattle.places.specs.Places.{InSpan, RuleOf, listMove}
+use Rattle.places.specs.Places.{InSpan, RuleOf, listMove, moveAt}
 use Rattle.places.specs.Alternatives.{slotsOf, childOf}
 use Rattle.places.proofs.Slots.{in-spans}
 use Rattle.constraints.specs.declared.Constraint.{Constraint}
@@ -26,12 +29,13 @@ use Rattle.terms.specs.declared.Term.{Term as CodedTerm}
 use Rattle.constraints.specs.Decoded.{relationOf, negationOf, decoded, Handled}
 use Rattle.step.specs.declared.Act.{Act}
 use Rattle.step.specs.declared.Act.the-variants.{Note, Close}
-use Rattle.step.specs.Numbered.{rowNumbered, factsOf, listChild}
-use Rattle.step.specs.Acts.{Does, Acts}
+use Rattle.step.specs.Numbered.{rowNumbered, literalsOf, maskOf, insOf, outsOf, factsOf, listChild}
+use Rattle.step.specs.Acts.{listsOf, Does, Placed, Acts}
 use Rattle.step.proofs.Asserting.{only-child}
-use Rattle.step.proofs.Rows.{slots-numbered, facts-any, first-7, second}
-use Rattle.step.proofs.Acting.{root-own-in, does-by, close-does, in-does, out-does, in-out-does, out-in-does}
-use Rattle.step.proofs.Entries.{slots-20}
+use Rattle.step.proofs.Rows.{slots-numbered, facts-any, facts-are, masks-are}
+use Rattle.step.proofs.Acting.{root-own, root-in, does-by, close-does, in-does, out-does, literals-does}
+use Rattle.step.proofs.Entries.{entries-below}
+use Rattle.step.proofs.Classes.{entry-place, entry-does}
 
 -- ---- by the constraint
 
@@ -88,7 +92,7 @@ module _ (constants : List Term) (b : Branch) (j p c : ℕ) where
 
 -- ---- the rules on sets: their numbers, and those of their children
 
-relation-range : (k : Relation) (x y z : SetVar) (j : ℕ) → RuleOf (relation k x y z) j → (5 ≤ j) × (j < 19)
+pub relation-range : (k : Relation) (x y z : SetVar) (j : ℕ) → RuleOf (relation k x y z) j → (5 ≤ j) × (j < 19)
 relation-range equal x y z j r = ⊎-elim (λ w. (omega arith, omega arith)) (λ w. (omega arith, omega arith)) r
 relation-range union x y z j r = ⊎-elim (λ w. (omega arith, omega arith)) (λ w. (omega arith, omega arith)) r
 relation-range disjoint x y z j r = ⊎-elim (λ w. (omega arith, omega arith)) (λ w. (omega arith, omega arith)) r
@@ -104,8 +108,15 @@ numbered l j c s n = (s .0, s .1, subst (λ (m : ℕ). c < m) (slots-numbered l 
 pub relation-numbered : (k : Relation) (x y z : SetVar) (j c : ℕ) → RuleOf (relation k x y z) j → c < slotsOf (relation k x y z) j → Numbered j c
 relation-numbered k x y z j c r = numbered (relation k x y z) j c (relation-range k x y z j r)
 
-negation-numbered : (k : Negation) (x y z : SetVar) (w : Term) (j c : ℕ) → RuleOf (negation k x y z w) j → c < slotsOf (negation k x y z w) j → Numbered j c
+pub negation-numbered : (k : Negation) (x y z : SetVar) (w : Term) (j c : ℕ) → RuleOf (negation k x y z w) j → c < slotsOf (negation k x y z w) j → Numbered j c
 negation-numbered k x y z w j c r = numbered (negation k x y z w) j c (⊎-elim (λ w. (omega arith, omega arith)) (λ w. (omega arith, omega arith)) r)
+
+-- child c of rule j at term t, by its masks
+pub row-does : (ps : List ℕ) → Falls ps → (t : ℕ) → t < 64 → (h : CodedTerm) → h .0 ≡ rootOf ps t → (A B C : SetVar) (j c x y z ins outs : ℕ) → x ≡ 2 ^ A .index → y ≡ 2 ^ B .index → z ≡ 2 ^ C .index
+    → (ins ≡ insOf (maskOf x y z) (literalsOf j c)) × (outs ≡ outsOf (maskOf x y z) (literalsOf j c)) → Does ps (λ ks b. assertAll [] b (factsOf (term t) A B C j c)) (Note h ins outs)
+row-does ps fall t l h e A B C j c x y z ins outs p q r g =
+    let m = masks-are A B C x y z p q r in
+    literals-does ps fall t l h e _ (operandOf A B C) (literalsOf j c) ins outs (g .0 ∙ ap (λ (f : Operand → ℕ). insOf f (literalsOf j c)) m) (g .1 ∙ ap (λ (f : Operand → ℕ). outsOf f (literalsOf j c)) m) (λ ks b. ap (assertAll [] b) (facts-are (term t) A B C j c))
 
 -- ---- the code's constraint l is a case m
 
@@ -117,78 +128,71 @@ module _ (es : List ℕ) (l m : Constraint) (e : l ≡ m) (j c : ℕ) where
   pub given : Handled es l → RuleOf (decoded (map term es) l) j → c < slotsOf (decoded (map term es) l) j → Given es m j c
   given h r n = subst (λ (x : Constraint). Given es x j c) e (h, r, n)
 
--- rule 20 has a child for each entry
-pub entry-number : (es : List ℕ) (l : Constraint) (j c : ℕ) → Handled es l → InSpan (19, 20) j ⊎ InSpan (20, 21) j → c < slotsOf (decoded (map term es) l) j → ¬ (j ≡ 19) → c < length es
-entry-number es l j c h (inl r) n k = absurd (k (omega arith))
-entry-number es l j c h (inr r) n k = subst (λ (m : ℕ). c < m) (slots-20 es l h j (omega arith)) n
+-- a rule of a list that is not 20 is 19
+pub entry-rule : (j : ℕ) → InSpan (19, 20) j ⊎ InSpan (20, 21) j → ¬ (j ≡ 20) → j ≡ 19
+entry-rule j (inl r) n = omega (arith, r .0, r .1)
+entry-rule j (inr r) n = absurd (n (omega (arith, r .0, r .1)))
 
--- a negation's rule is 7, and none of a relation's is
-negation-rule : (j : ℕ) → InSpan (0, 0) j ⊎ InSpan (7, 8) j → j ≡ 7
-negation-rule j r = ⊎-elim (λ w. absurd (omega arith)) (λ w. omega arith) r
+-- ---- the acts of constraint l at position p, that concern root h; r is the root that the code finds
 
-not-7 : (k : Relation) (x y z : SetVar) (j : ℕ) → RuleOf (relation k x y z) j → ¬ (j ≡ 7)
-not-7 equal x y z j r e = ⊎-elim (λ w. omega arith) (λ w. omega arith) r
-not-7 union x y z j r e = ⊎-elim (λ w. omega arith) (λ w. omega arith) r
-not-7 disjoint x y z j r e = ⊎-elim (λ w. omega arith) (λ w. omega arith) r
-not-7 subset x y z j r e = ⊎-elim (λ w. omega arith) (λ w. omega arith) r
-not-7 intersection x y z j r e = ⊎-elim (λ w. omega arith) (λ w. omega arith) r
+module _ (ps : List ℕ) (fall : Falls ps) where
+  -- merging with a term is merging with another of its class
+  same-of : (ks : List Term) (b : Branch) (x t u : ℕ) → b .parents ≡ ps → rootOf ps x ≡ rootOf ps t → assert ks b (Same (term t) (term u)) ≡ assert ks b (Same (term x) (term u))
+  unfolding assert
+  same-of ks b x t u q e = let z : rootAt b t ≡ rootAt b x = root-in ps fall b t q ∙ sym e ∙ sym (root-in ps fall b x q) in rw z
 
-pub relation-rule : (es : List ℕ) (j : ℕ) {l : Constraint} {k : CodedRelation} {a b c : CodedSet} → l ≡ Related k a b c → RuleOf (decoded (map term es) l) j → ¬ (j ≡ 7)
-relation-rule es j {l} {k} {a} {b} {c} e r = not-7 (relationOf k) (setVar (a .0)) (setVar (b .0)) (setVar (c .0)) j (subst (λ (x : Constraint). RuleOf (decoded (map term es) x) j) e r)
-
--- ---- the acts of constraint l at position p
-
-module _ (ps es : List ℕ) (fall : Falls ps) (l : Constraint) (j p c : ℕ) (d : Handled es l) (r : RuleOf (decoded (map term es) l) j) (n : c < slotsOf (decoded (map term es) l) j) where
+module _ (ps es : List ℕ) (fall : Falls ps) (l : Constraint) (j p c h : ℕ) (P : Placed ps es l j p h) (n : c < slotsOf (decoded (map term es) l) j) (r : CodedTerm) (own : r .0 ≡ rootOf ps h) where
   abbrev Acted : Constraint → Act → Type 0
   Acted m = Acts ps (decoded (map term es) m) j p c
 
+  abbrev At : Constraint → Type 0
+  At m = moveAt (listsOf ps [] []) (decoded (map term es) m) j p .0 .index ≡ h
+
   -- an act of m is one of l
-  of-case : (m : Constraint) → l ≡ m → (a : Act) → (Given es m j c → Acted m a) → Acted l a
-  of-case m e a f = subst (λ (x : Constraint). Acted x a) (sym e) (f (given es l m e j c d r n))
+  of-case : (m : Constraint) → l ≡ m → (a : Act) → (Given es m j c → At m → Acted m a) → Acted l a
+  of-case m e a f = subst (λ (x : Constraint). Acted x a) (sym e) (f (given es l m e j c (P .handled) (P .ruled) n) (subst At e (P .concerns)))
 
-  module _ (t : CodedTerm) (A : CodedSet) (h : CodedTerm) (m : ℕ) (q : h .0 ≡ rootOf ps (t .0)) (o : m ≡ 2 ^ (A .0)) where
-    pub member-acts : l ≡ Member t A → Acted l (Note h m 0)
-    member-acts e = of-case (Member t A) e (Note h m 0) (λ g. in-does ps fall (t .0) (g .0 .in-range .0) h q _ _ (λ b z. root-own-in ps fall b (t .0) z) (A .0) m o (λ k b. member-child (termsFrom 0 k) b j p c (term (t .0)) (setVar (A .0)) (g .1) (g .2)))
+  -- r is the root of a term of that class
+  its-root : (t : ℕ) → rootAt (listsOf ps [] []) t ≡ h → r .0 ≡ rootOf ps t
+  its-root t w = own ∙ ap (rootOf ps) (sym w ∙ root-is (listsOf ps [] []) t) ∙ root-own ps fall t
 
-    pub nonmember-acts : l ≡ Nonmember t A → Acted l (Note h 0 m)
-    nonmember-acts e = of-case (Nonmember t A) e (Note h 0 m) (λ g. out-does ps fall (t .0) (g .0 .in-range .0) h q _ _ (λ b z. root-own-in ps fall b (t .0) z) (A .0) m o (λ k b. nonmember-child (termsFrom 0 k) b j p c (term (t .0)) (setVar (A .0)) (g .1) (g .2)))
+  module _ (t : CodedTerm) (A : CodedSet) (m : ℕ) (o : m ≡ 2 ^ (A .0)) where
+    pub member-acts : l ≡ Member t A → Acted l (Note r m 0)
+    member-acts e = of-case (Member t A) e (Note r m 0) (λ g w. in-does ps fall (t .0) (g .0 .in-range .0) r (its-root (t .0) w) _ (A .0) m o (λ k b. member-child k b j p c (term (t .0)) (setVar (A .0)) (g .1) (g .2)))
 
-  pub same-acts : (t u : CodedTerm) → l ≡ Equated t u → (a : Act) → Does ps (λ k b. assert (termsFrom 0 k) b (Same (term (t .0)) (term (u .0)))) (λ b. t .0) a → Acted l a
-  same-acts t u e a w = of-case (Equated t u) e a (λ g. does-by ps fall _ _ _ _ a (λ k b z. same-child (termsFrom 0 k) b j p c (term (t .0)) (term (u .0)) (g .1) (g .2)) (λ b z. root-own-in ps fall b (t .0) z) w)
+    pub nonmember-acts : l ≡ Nonmember t A → Acted l (Note r 0 m)
+    nonmember-acts e = of-case (Nonmember t A) e (Note r 0 m) (λ g w. out-does ps fall (t .0) (g .0 .in-range .0) r (its-root (t .0) w) _ (A .0) m o (λ k b. nonmember-child k b j p c (term (t .0)) (setVar (A .0)) (g .1) (g .2)))
+
+  pub same-acts : (t u : CodedTerm) → l ≡ Equated t u → (a : Act) → Does ps (λ k b. assert k b (Same (term (r .0)) (term (u .0)))) a → Acted l a
+  same-acts t u e a d = of-case (Equated t u) e a (λ g w. does-by ps fall _ _ a (λ k b z. same-child k b j p c (term (t .0)) (term (u .0)) (g .1) (g .2) ∙ same-of ps fall k b (r .0) (t .0) (u .0) z (ap (rootOf ps) (its-root (t .0) w) ∙ root-own ps fall (t .0))) d)
 
   pub different-acts : (t u : CodedTerm) → l ≡ Different t u → Acted l Close
-  different-acts t u e = of-case (Different t u) e Close (λ g. close-does ps fall _ _ (λ k b z. different-child (termsFrom 0 k) b j p c (term (t .0)) (term (u .0)) (g .1)))
+  different-acts t u e = of-case (Different t u) e Close (λ g w. close-does ps fall _ (λ k b z. different-child k b j p c (term (t .0)) (term (u .0)) (g .1)))
 
-  pub relation-acts : (k : CodedRelation) (A B C : CodedSet) → l ≡ Related k A B C → (a : Act) → Does ps (λ i b. assertAll [] b (factsOf (term p) (setVar (A .0)) (setVar (B .0)) (setVar (C .0)) j c)) (λ b. p) a → Acted l a
-  relation-acts k A B C e a w = of-case (Related k A B C) e a (λ g. does-by ps fall _ _ _ _ a (λ i b z. relation-child (termsFrom 0 i) b j p c (setVar (A .0)) (setVar (B .0)) (setVar (C .0)) (relationOf k) (g .1)) (λ b z. refl) w)
+  -- by the masks of the tables
+  module _ (A B C : CodedSet) where
+    abbrev noted : Act
+    noted = Note r (insOf (maskOf (2 ^ (A .0)) (2 ^ (B .0)) (2 ^ (C .0))) (literalsOf j c)) (outsOf (maskOf (2 ^ (A .0)) (2 ^ (B .0)) (2 ^ (C .0))) (literalsOf j c))
 
-  -- a negation's two, at its witness
-  module _ (k : CodedNegation) (A B C : CodedSet) (w : CodedTerm) (e : l ≡ Negated k A B C w) (h : CodedTerm) (x y : ℕ) (q : h .0 ≡ rootOf ps (w .0)) (o : x ≡ 2 ^ (A .0)) (u : y ≡ 2 ^ (B .0)) where
-    abbrev facts : List Fact
-    facts = factsOf (term (w .0)) (setVar (A .0)) (setVar (B .0)) (setVar (C .0)) j c
+    row-at : (t : ℕ) → t < 64 → r .0 ≡ rootOf ps t → Does ps (λ ks b. assertAll [] b (factsOf (term t) (setVar (A .0)) (setVar (B .0)) (setVar (C .0)) j c)) noted
+    row-at t l q = row-does ps fall t l r q (setVar (A .0)) (setVar (B .0)) (setVar (C .0)) j c _ _ _ _ _ refl refl refl (refl, refl)
 
-    child-is : Given es (Negated k A B C w) j c → (i : ℕ) (b : Branch) → childOf (termsFrom 0 i) b (decoded (map term es) (Negated k A B C w)) j p c ≡ assertAll [] b facts
-    child-is g i b = negation-child (termsFrom 0 i) b j p c (setVar (A .0)) (setVar (B .0)) (setVar (C .0)) (negationOf k) (term (w .0)) (g .1)
+    pub relation-acts : (k : CodedRelation) → l ≡ Related k A B C → (a : Act) → a ≡ noted → Acted l a
+    relation-acts k e a z = subst (Acted l) (sym z) (of-case (Related k A B C) e noted (λ g w. does-by ps fall _ _ noted (λ i b y. relation-child i b j p c (setVar (A .0)) (setVar (B .0)) (setVar (C .0)) (relationOf k) (g .1)) (row-at p (omega (arith, w, P .low)) (own ∙ ap (rootOf ps) (sym w)))))
 
-    few : Given es (Negated k A B C w) j c → c < length (rowNumbered j .alternatives)
-    few g = negation-numbered (negationOf k) (setVar (A .0)) (setVar (B .0)) (setVar (C .0)) (term (w .0)) j c (g .1) (g .2) .2
+    -- a negation's, at its witness
+    pub negation-acts : (k : CodedNegation) (v : CodedTerm) → l ≡ Negated k A B C v → (a : Act) → a ≡ noted → Acted l a
+    negation-acts k v e a z = subst (Acted l) (sym z) (of-case (Negated k A B C v) e noted (λ g w. does-by ps fall _ _ noted (λ i b y. negation-child i b j p c (setVar (A .0)) (setVar (B .0)) (setVar (C .0)) (negationOf k) (term (v .0)) (g .1)) (row-at (v .0) (g .0 .in-range .1) (its-root (v .0) w))))
 
-    pub first-acts : c ≡ 0 → Acted l (Note h x y)
-    first-acts z = of-case (Negated k A B C w) e (Note h x y) (λ g. in-out-does ps fall (w .0) (g .0 .in-range .1) h q _ _ (λ b z. root-own-in ps fall b (w .0) z) (A .0) (B .0) x y o u
-        (λ i b. child-is g i b ∙ sym (first-7 b (term (w .0)) (setVar (A .0)) (setVar (B .0)) (setVar (C .0)) j c (few g) (negation-rule j (g .1)) z)))
+  -- rule 19 of a list, and of an interval
+  module _ (A : CodedSet) (m : ℕ) (o : m ≡ 2 ^ (A .0)) (no : ¬ (j ≡ 20)) where
+    entry-acts : j ≡ 19 → listMove (listsOf ps [] []) (setVar (A .0)) (map term es) j p .0 .index ≡ h → Does ps (λ k b. listChild k b (map term es) (setVar (A .0)) j p c) (Note r m 0)
+    entry-acts e w = entry-does ps es fall (setVar (A .0)) j p c e (each-at (λ (x : ℕ). x < 64) es 0 (entries-below es l (P .handled)) p (P .of-entry e)) r (its-root (getD es p 0) (sym (entry-place ps es (setVar (A .0)) j p e) ∙ w)) m o
 
-    pub second-acts : ¬ (c ≡ 0) → Acted l (Note h y x)
-    second-acts z = of-case (Negated k A B C w) e (Note h y x) (λ g. out-in-does ps fall (w .0) (g .0 .in-range .1) h q _ _ (λ b z. root-own-in ps fall b (w .0) z) (A .0) (B .0) x y o u
-        (λ i b. child-is g i b ∙ sym (second b (term (w .0)) (setVar (A .0)) (setVar (B .0)) (setVar (C .0)) j c (few g) (inl (negation-rule j (g .1))) z)))
+    pub exactly-acts : l ≡ Exactly A → Acted l (Note r m 0)
+    exactly-acts e = of-case (Exactly A) e (Note r m 0) (λ g w. does-by ps fall _ _ (Note r m 0) (λ k b z. exactly-child k b j p c (setVar (A .0)) (map term es) (g .1) (g .2)) (entry-acts (entry-rule j (g .1) no) w))
 
-  -- a list's, and an interval's
-  abbrev Lists : CodedSet → Act → Type 0
-  Lists A = Does ps (λ k b. listChild (termsFrom 0 k) b (map term es) (setVar (A .0)) j p c) (λ b. listMove b (setVar (A .0)) (map term es) j p .0 .index)
-
-  pub exactly-acts : (A : CodedSet) → l ≡ Exactly A → (a : Act) → Lists A a → Acted l a
-  exactly-acts A e a w = of-case (Exactly A) e a (λ g. does-by ps fall _ _ _ _ a (λ k b z. exactly-child (termsFrom 0 k) b j p c (setVar (A .0)) (map term es) (g .1) (g .2)) (λ b z. refl) w)
-
-  pub interval-acts : (A : CodedSet) (t u : CodedTerm) → l ≡ Interval A t u → (a : Act) → Lists A a → Acted l a
-  interval-acts A t u e a w = of-case (Interval A t u) e a (λ g. does-by ps fall _ _ _ _ a
-      (λ k b z. interval-child (termsFrom 0 k) b j p c (setVar (A .0)) (term (t .0)) (term (u .0)) (map term es) (g .0 .entries-are) (g .1) (g .2))
-      (λ b z. ap (λ (ts : List Term). rootOf ps (listMove b (setVar (A .0)) ts j p .0 .index)) (g .0 .entries-are)) w)
+    pub interval-acts : (t u : CodedTerm) → l ≡ Interval A t u → Acted l (Note r m 0)
+    interval-acts t u e = of-case (Interval A t u) e (Note r m 0) (λ g w. does-by ps fall _ _ (Note r m 0)
+        (λ k b z. interval-child k b j p c (setVar (A .0)) (term (t .0)) (term (u .0)) (map term es) (g .0 .entries-are) (g .1) (g .2))
+        (entry-acts (entry-rule j (g .1) no) (subst (λ (ts : List Term). listMove (listsOf ps [] []) (setVar (A .0)) ts j p .0 .index ≡ h) (g .0 .entries-are) w)))

@@ -1,3 +1,0 @@
-pub mod Keeping
-pub mod Before
-pub mod Found

@@ -1,4 +1,0 @@
-pub mod RowRules
-pub mod NearLaws
-pub mod ByKind
-pub mod Passing
