@@ -194,7 +194,7 @@ pub fn lowest(problem: &[u8], tab: Table, assignment: &[u8], at: Layout) -> u8
     requires { ⌜ Opened (now problem) tab × Fitting tab (now assignment) at ⌝ }
     ensures { λ r. ⌜ (lowest (seen (now (problem .entry)) tab (now (assignment .entry)) at) 0 (constraintsOf (read (now (problem .entry)))) ≡ failing (tab .constraints) r) × (r ≤ tab .constraints) ⌝ }
 {
-    let b = Branch::start();
+    let b = Branch::start(0);
     let numbers = b.parents;
     let count = tab.constraints;
     for i in 0..count {

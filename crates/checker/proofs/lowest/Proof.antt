@@ -29,7 +29,7 @@ start-requires : tie.Need-start-requires Inv-loop μ-loop
 start-requires c κs = search needs
 
 loop-holds : tie.Need-loop-holds Inv-loop μ-loop
-loop-holds c = (omega arith, refl, start-numbers _ (c .before .start .ensures))
+loop-holds c = (omega arith, refl, start-numbers _ _ (c .before .start .ensures))
 
 slice-aggregate-holds : tie.Need-slice-aggregate-holds Inv-loop μ-loop
 slice-aggregate-holds c = sym (ap length (c .before .before .loop .inv .2))
