@@ -18,10 +18,8 @@ use Rattle.calculus.specs.Meaning as calculus
 use Rattle.calculus.specs.Branch.{Branch, walk, rootAt}
 use Rattle.calculus.specs.Invariants.{Falls}
 use Rattle.calculus.specs.Reading.{read}
-use Rattle.calculus.specs.Search.{candidates, propagations, splits, rootsOf}
 use Rattle.calculus.proofs.Bools.{any-map}
 use Rattle.calculus.proofs.Masks.{bit-zero}
-use Rattle.calculus.proofs.SearchLaws.{first-left, first-none-app}
 use Rattle.calculus.proofs.Walk.{walk-root, root-walk}
 use Rattle.calculus.proofs.Sequences.{each-at}
 use Rattle.calculus.specs.Invariants.{ConstraintIn}
@@ -39,8 +37,8 @@ use Rattle.constraints.proofs.Decoding.{kind-here}
 use Rattle.rules.specs.Words.{EntryBits, Asked, Shown, Fits}
 use Rattle.rules.proofs.Lowest.{first-fails}
 use Rattle.rules.proofs.FitLaws.{entries-below}
-use Rattle.search.specs.declared.Place.{Place}
-use Rattle.search.specs.First.{ListedOf, firstPlace, firstOf, Finds}
+use Rattle.search.specs.declared.Found.{Found}
+use Rattle.search.specs.First.{ListedOf, firstPlace, nowhere, Finds}
 use Rattle.search.proofs.Order.{position-hit, position-miss, positions-done, ownFirst, rulesFrom, rules-begin, rule-hit, rule-miss, rules-done, constraintsFrom, constraint-hit, constraint-miss, constraints-done}
 
 -- ---- rules of a constraint
@@ -170,8 +168,8 @@ module _ (split : Bool) (n : ℕ) (ls : List calculus.Constraint) (b : Branch) w
     pub left : Option·map (λ (p : ℕ). moveAt b (getD ls i noConstraint) j p .0 .index) (firstAt n b (getD ls i noConstraint) j) ≡ first (bit fit) (upFrom h (n - h))
 
   -- past the last constraint no rule applies
-  pub search-over : (i : ℕ) → AtConstraint i → length ls ≤ i → (p : Place) → p .rule ≡ 0 → Finds (firstPlace split n ls b) n ls b p
-  search-over i a h p e = record { position = 0; first-is = rw e (a ∙ constraints-done split n ls b i h); within = λ z. absurd (z e) }
+  pub search-over : (i : ℕ) → AtConstraint i → length ls ≤ i → (r : Found) → r ≡ nowhere → Finds split n ls b r
+  search-over i a h r e = subst (Finds split n ls b) (sym e) (record { position = 0; first-is = a ∙ constraints-done split n ls b i h; there = λ z. absurd (z refl); none = λ _. refl })
 
   -- a constraint without rules is passed over
   pub no-rules : (i : ℕ) → AtConstraint i → i < length ls → (first end : ℕ) → first ≡ spanOf split (getD ls i noConstraint) .0 → end ≡ spanOf split (getD ls i noConstraint) .1 → end ≤ first → AtConstraint (i + 1)
@@ -207,7 +205,7 @@ module _ (split : Bool) (n : ℕ) (ls : List calculus.Constraint) (b : Branch) w
       next-root m z = record { rule = a .rule; left = a .left ∙ position-miss (bit fit) h n m (sym (bit-shr fit h) ∙ ne-eqb (fit / 2 ^ h % 2) 1 z) }
 
       -- a root whose bit is set is that of the first place
-      pub search-hit : Falls (b .parents) → j < end → h < n → fit / 2 ^ h % 2 ≡ 1 → Finds (firstPlace split n ls b) n ls b (record { number = i; rule = j; root = record { 0 = h }; constraint = l })
+      pub search-hit : Falls (b .parents) → j < end → h < n → fit / 2 ^ h % 2 ≡ 1 → Finds split n ls b (record { number = i; rule = j; root = record { 0 = h }; constraint = l })
       search-hit fall k m z =
           let c : calculus.Constraint = getD ls i noConstraint in
           let t : bit fit h ≡ true = sym (bit-shr fit h) ∙ eq-eqb (fit / 2 ^ h % 2) 1 z in
@@ -219,36 +217,15 @@ module _ (split : Bool) (n : ℕ) (ls : List calculus.Constraint) (b : Branch) w
           record {
             position = p;
             first-is = rw (ne-eqb j 0 (rule-from-1 split c j y)) (a .rule .before ∙ constraint-hit split n ls b i (s .in-problem) (moveAt b c j p) (a .rule .left ∙ rule-hit n b c j end k p f));
-            within = λ _. record {
-              in-problem = s .in-problem;
-              of-rule = rule-of split c j y;
-              of-entry = w .0;
-              of-root = λ o. sym (ap (λ (x : Term). x .index) (w .1 o .1)) ∙ g .2;
+            there = λ _. record {
+              within = record { in-problem = s .in-problem; of-rule = y; of-entry = w .0; of-root = λ o. w .1 o };
               concerns = ap term (g .2);
               low = m;
               rooted = subst (λ (k : ℕ). rootAt b k ≡ k) (g .2) (concerned-root n b fall c j p (s .few) (s .in-range) (rule-of split c j y) f);
               opened = s .opened;
             };
+            none = λ e. absurd (rule-from-1 split c j y e);
           }
-
--- ---- propagation before splits
-
-module _ (n : ℕ) (ls : List calculus.Constraint) (b : Branch) (p : Place) where
-  pub propagation-first : Finds (firstPlace false n ls b) n ls b p → ¬ (p .rule ≡ 0) → Finds (firstOf n ls b) n ls b p
-  unfolding firstOf firstPlace
-  propagation-first f z = record {
-    position = f .position;
-    first-is = rw (ne-eqb (p .rule) 0 z) (first-left _ (candidates (propagations (rootsOf n b) b) 0 ls) (candidates (splits (rootsOf n b) b) 0 ls) _ (rw (ne-eqb (p .rule) 0 z) at (f .first-is)));
-    within = f .within;
-  }
-
-  pub split-next : (q : Place) → Finds (firstPlace false n ls b) n ls b q → q .rule ≡ 0 → Finds (firstPlace true n ls b) n ls b p → Finds (firstOf n ls b) n ls b p
-  unfolding firstOf firstPlace
-  split-next q f z g = record {
-    position = g .position;
-    first-is = first-none-app _ (candidates (propagations (rootsOf n b) b) 0 ls) (candidates (splits (rootsOf n b) b) 0 ls) (rw (eq-eqb (q .rule) 0 z) at (f .first-is)) ∙ g .first-is;
-    within = g .within;
-  }
 
 -- ---- the entries as bits, of the constraints before number i
 

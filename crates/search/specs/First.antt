@@ -1,4 +1,4 @@
--- The first place, as the search answers it.
+-- What a search answers, and that it is the first place of the calculus.
 use mathlib.Core.Path.{_≡_}
 use mathlib.Core.Bool.{Bool, cond}
 use mathlib.Core.Option.{Option, none, some}
@@ -11,13 +11,14 @@ use Rattle.calculus.specs.Terms.{Term, term}
 use Rattle.calculus.specs.Relations.{applies}
 use Rattle.calculus.specs.Meaning.{Constraint}
 use Rattle.calculus.specs.Branch.{Branch, rootAt, known}
-use Rattle.calculus.specs.Search.{Candidate, candidates, places}
+use Rattle.calculus.specs.Search.{Candidate, candidates}
 use Rattle.calculus.specs.Reading.{read}
 use Rattle.problem.specs.declared.Totals.{Totals}
 use Rattle.problem.specs.Table.{Tabled, constraintsOf, noConstraint, listed as listOf}
+use Rattle.constraints.specs.declared.Constraint.the-variants.{Same}
 use Rattle.constraints.specs.Decoded.{decoded}
-use Rattle.places.specs.Places.{RuleOf, moveAt, entriesOf, offers}
-use Rattle.search.specs.declared.Place.{Place}
+use Rattle.places.specs.Places.{spanOf, InSpan, moveAt, entriesOf, offers}
+use Rattle.search.specs.declared.Found.{Found}
 
 -- what is prepared once a run: the table, the numbers 0 to 63, and by constraint its entries as bits
 pub record ListedOf (ls : List Constraint) (listed : List ℕ) : Type 0 where
@@ -30,34 +31,50 @@ pub record Prepared (bs numbers : List ℕ) (totals : Totals) (offsets witnesses
   pub numbers-are : numbers ≡ upFrom 0 64
   pub listed-are : ListedOf (constraintsOf (read bs)) listed
 
--- the definition's first place; and the first where a propagation rule applies, or a split
-unfoldable pub firstOf : ℕ → List Constraint → Branch → Option Candidate
-firstOf n ls b = first (λ (c : Candidate). applies (known b) (c .move)) (places n ls b)
+-- A place by numbers: the constraint, the rule, and the position, for rule 19 an entry's number and for any other the root.
+pub record Spot : Type 0 where
+  pub constraint : ℕ
+  pub rule : ℕ
+  pub position : ℕ
 
+-- The calculus's candidate at a place.
+abbrev pub candidateAt : List Constraint → Branch → Spot → Candidate
+candidateAt ls b p = record { constraint = p .constraint; concerned = moveAt b (getD ls (p .constraint) noConstraint) (p .rule) (p .position) .0; move = moveAt b (getD ls (p .constraint) noConstraint) (p .rule) (p .position) .1 }
+
+-- The candidate that a place tells. Rule 0 tells that there is none.
+abbrev pub found : List Constraint → Branch → Spot → Option Candidate
+found ls b p = cond (eqb (p .rule) 0) none (some (candidateAt ls b p))
+
+-- A place is one of the problem's: its constraint has the rule, as a propagation rule or as a split, and the rule has the position.
+pub record Within (split : Bool) (n : ℕ) (ls : List Constraint) (b : Branch) (p : Spot) : Type 0 where
+  pub in-problem : p .constraint < length ls
+  pub of-rule : InSpan (spanOf split (getD ls (p .constraint) noConstraint)) (p .rule)
+  pub of-entry : p .rule ≡ 19 → p .position < length (entriesOf (getD ls (p .constraint) noConstraint))
+  pub of-root : ¬ (p .rule ≡ 19) → (p .position < 64) × (moveAt b (getD ls (p .constraint) noConstraint) (p .rule) (p .position) .0 ≡ term (p .position))
+
+-- The first candidate that applies, of the propagation rules or of the splits.
 unfoldable pub firstPlace : Bool → ℕ → List Constraint → Branch → Option Candidate
 firstPlace split n ls b = first (λ (c : Candidate). applies (known b) (c .move)) (candidates (offers split n b) 0 ls)
 
--- the constraint of a place
-abbrev pub constraintAt : List Constraint → Place → Constraint
-constraintAt ls p = getD ls (p .number) noConstraint
+-- The place of an answer, at a position.
+abbrev pub spot : Found → ℕ → Spot
+spot r position = record { constraint = r .number; rule = r .rule; position = position }
 
--- the candidate of a place's constraint and rule at a position; rule 0 says that there is none
-abbrev pub found : List Constraint → Branch → Place → ℕ → Option Candidate
-found ls b p q = cond (eqb (p .rule) 0) none (some (record { constraint = p .number; concerned = moveAt b (constraintAt ls p) (p .rule) q .0; move = moveAt b (constraintAt ls p) (p .rule) q .1 }))
+-- An answer tells a place: the root is the one concerned there, and the constraint is the one decoded.
+pub record Located (split : Bool) (n : ℕ) (ls : List Constraint) (b : Branch) (r : Found) (position : ℕ) : Type 0 where
+  pub within : Within split n ls b (spot r position)
+  pub concerns : moveAt b (getD ls (r .number) noConstraint) (r .rule) position .0 ≡ term (r .root .0)
+  pub low : r .root .0 < n
+  pub rooted : rootAt b (r .root .0) ≡ r .root .0
+  pub opened : getD ls (r .number) noConstraint ≡ decoded (listOf (getD ls (r .number) noConstraint)) (r .constraint)
 
--- a place of these constraints, at a position: the number of an entry for rule 19, and the root for any other
-pub record Within (n : ℕ) (ls : List Constraint) (b : Branch) (p : Place) (q : ℕ) : Type 0 where
-  pub in-problem : p .number < length ls
-  pub of-rule : RuleOf (constraintAt ls p) (p .rule)
-  pub of-entry : p .rule ≡ 19 → q < length (entriesOf (constraintAt ls p))
-  pub of-root : ¬ (p .rule ≡ 19) → q ≡ p .root .0
-  pub concerns : moveAt b (constraintAt ls p) (p .rule) q .0 ≡ term (p .root .0)
-  pub low : p .root .0 < n
-  pub rooted : rootAt b (p .root .0) ≡ p .root .0
-  pub opened : constraintAt ls p ≡ decoded (listOf (constraintAt ls p)) (p .constraint)
+-- The answer where nothing is found.
+abbrev pub nowhere : Found
+nowhere = record { number = 0; rule = 0; root = record { 0 = 0 }; constraint = Same (record { 0 = 0 }) (record { 0 = 0 }) }
 
--- the place is the one sought
-pub record Finds (sought : Option Candidate) (n : ℕ) (ls : List Constraint) (b : Branch) (p : Place) : Type 0 where
+-- The answer is the first place, at some position, or tells that there is none.
+pub record Finds (split : Bool) (n : ℕ) (ls : List Constraint) (b : Branch) (r : Found) : Type 0 where
   pub position : ℕ
-  pub first-is : sought ≡ found ls b p position
-  pub within : ¬ (p .rule ≡ 0) → Within n ls b p position
+  pub first-is : firstPlace split n ls b ≡ found ls b (spot r position)
+  pub there : ¬ (r .rule ≡ 0) → Located split n ls b r position
+  pub none : r .rule ≡ 0 → r ≡ nowhere

@@ -13,10 +13,10 @@ ghost use Rattle.calculus.specs.Branch.{Branch};
 ghost use Rattle.calculus.specs.Reading.{read};
 ghost use Rattle.problem.specs.Table.{Tabled, constraintsOf};
 ghost use Rattle.rules.specs.Words.{Lent, Shown};
-ghost use Rattle.search.specs.First.{ListedOf, Prepared, firstPlace, firstOf, Finds};
+ghost use Rattle.search.specs.First.{ListedOf, Prepared, Finds};
 
-// A place: the constraint's number, the rule, the root concerned, and the constraint itself. Rule 0: there is none.
-pub struct Place {
+// What a search answers: the constraint's number, the rule, the root concerned, and the constraint itself. Rule 0: nothing is found.
+pub struct Found {
     pub number: u8,
     pub rule: u8,
     pub root: Term,
@@ -47,7 +47,7 @@ pub fn listings<'a>(
 }
 
 // The first place where a propagation rule applies, or a split. The numbers are 0 to 63, and by constraint its entries are listed as bits.
-pub fn first_place<'a>(
+pub fn search<'a>(
     problem: &'a [u8],
     numbers: &'a [u8],
     totals: Totals,
@@ -57,13 +57,13 @@ pub fn first_place<'a>(
     parents: &'a [u8],
     rows: &'a [u64],
     split: bool,
-) -> Place
+) -> Found
     requires { ⌜ Prepared (now problem) (now numbers) totals (now offsets) (now witnesses) (now listed) × Lent (now parents) (now rows) ⌝ }
-    ensures { λ r. ⌜ ((b : Branch) → Shown b (now (parents .entry)) (now (rows .entry)) → Finds (firstPlace split (totals .terms) (constraintsOf (read (now (problem .entry)))) b) (totals .terms) (constraintsOf (read (now (problem .entry)))) b r) ⌝ }
+    ensures { λ r. ⌜ ((b : Branch) → Shown b (now (parents .entry)) (now (rows .entry)) → Finds split (totals .terms) (constraintsOf (read (now (problem .entry)))) b r) ⌝ }
 {
     let terms = totals.terms;
     let count = totals.constraints;
-    let mut place = Place {
+    let mut found = Found {
         number: 0,
         rule: 0,
         root: Term(0),
@@ -83,7 +83,7 @@ pub fn first_place<'a>(
                 if fit != 0 {
                     for h in 0..terms {
                         if (fit >> h) % 2 == 1 {
-                            place = Place {
+                            found = Found {
                                 number: i,
                                 rule: j,
                                 root: Term(h),
@@ -96,46 +96,5 @@ pub fn first_place<'a>(
             }
         }
     }
-    place
-}
-
-// The first place where a rule applies: propagation before splits.
-pub fn search<'a>(
-    problem: &'a [u8],
-    numbers: &'a [u8],
-    totals: Totals,
-    offsets: &'a [u16],
-    witnesses: &'a [u8],
-    listed: &'a [u64],
-    parents: &'a [u8],
-    rows: &'a [u64],
-) -> Place
-    requires { ⌜ Prepared (now problem) (now numbers) totals (now offsets) (now witnesses) (now listed) × Lent (now parents) (now rows) ⌝ }
-    ensures { λ r. ⌜ ((b : Branch) → Shown b (now (parents .entry)) (now (rows .entry)) → Finds (firstOf (totals .terms) (constraintsOf (read (now (problem .entry)))) b) (totals .terms) (constraintsOf (read (now (problem .entry)))) b r) ⌝ }
-{
-    let place = first_place(
-        problem,
-        numbers,
-        totals,
-        offsets,
-        witnesses,
-        listed,
-        parents,
-        rows,
-        false,
-    );
-    if place.rule != 0 {
-        return place;
-    }
-    first_place(
-        problem,
-        numbers,
-        totals,
-        offsets,
-        witnesses,
-        listed,
-        parents,
-        rows,
-        true,
-    )
+    found
 }
