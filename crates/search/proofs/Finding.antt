@@ -32,7 +32,7 @@ use Rattle.problem.proofs.Access.{opened, opened-sizes}
 use Rattle.places.specs.Places.{propagationSpan, splitSpan, spanOf, InSpan, RuleOf, entriesOf, moveAt, firstAt}
 use Rattle.places.proofs.Offered.{relation-19, position-root, position-of}
 use Rattle.constraints.specs.declared.Constraint.{Constraint}
-use Rattle.constraints.specs.Decoded.{decoded, Unpacked}
+use Rattle.constraints.specs.Decoded.{decoded, Handled, Unpacked}
 use Rattle.constraints.proofs.Decoding.{kind-here}
 use Rattle.rules.specs.Words.{EntryBits, Asked, Shown, Fits}
 use Rattle.rules.proofs.Lowest.{first-fails}
@@ -150,7 +150,9 @@ pub record Here (split : Bool) (n : ℕ) (ls : List calculus.Constraint) (i j en
   pub in-terms : ConstraintIn n 8 (getD ls i noConstraint)
   pub in-range : ConstraintIn 64 8 (getD ls i noConstraint)
   pub few : n ≤ 64
-  pub opened : getD ls i noConstraint ≡ decoded (listed (getD ls i noConstraint)) l
+  pub entries : List ℕ
+  pub opened : getD ls i noConstraint ≡ decoded (map term entries) l
+  pub handled : Handled entries l
 
 module _ (split : Bool) (n : ℕ) (ls : List calculus.Constraint) (b : Branch) where
   -- before constraint i
@@ -222,7 +224,9 @@ module _ (split : Bool) (n : ℕ) (ls : List calculus.Constraint) (b : Branch) w
               concerns = ap term (g .2);
               low = m;
               rooted = subst (λ (k : ℕ). rootAt b k ≡ k) (g .2) (concerned-root n b fall c j p (s .few) (s .in-range) (rule-of split c j y) f);
+              entries = s .entries;
               opened = s .opened;
+              handled = s .handled;
             };
             none = λ e. absurd (rule-from-1 split c j y e);
           }
@@ -246,16 +250,18 @@ module _ (bs : List ℕ) (i : ℕ) (es : List ℕ) (l : Constraint) (u : Unpacke
   unfolding constraintOf
   constraint-is = u .is
 
-  pub here-start : (tab : Table) → Opened bs tab → (split : Bool) → i < length (constraintsOf (read bs)) → (first end : ℕ) → first ≡ spanOf split (getD (constraintsOf (read bs)) i noConstraint) .0 → end ≡ spanOf split (getD (constraintsOf (read bs)) i noConstraint) .1 → constraintOf bs i ≡ decoded (listed (constraintOf bs i)) l → Here split (tab .terms) (constraintsOf (read bs)) i first end l
+  pub here-start : (tab : Table) → Opened bs tab → (split : Bool) → i < length (constraintsOf (read bs)) → (first end : ℕ) → first ≡ spanOf split (getD (constraintsOf (read bs)) i noConstraint) .0 → end ≡ spanOf split (getD (constraintsOf (read bs)) i noConstraint) .1 → Here split (tab .terms) (constraintsOf (read bs)) i first end l
   unfolding constraintOf
-  here-start tab o split h first end f e d = record {
+  here-start tab o split h first end f e = record {
     in-problem = h;
     begun = omega (arith, f);
     ends = e;
     in-terms = constraint-in bs tab o i h;
     in-range = subst (ConstraintIn 64 8) (sym constraint-is) (u .handled .in-range);
     few = terms-few bs tab o;
-    opened = d;
+    entries = es;
+    opened = constraint-is;
+    handled = u .handled;
   }
 
   -- the entries of constraint i by its list's
@@ -293,4 +299,4 @@ module _ (bs : List ℕ) (i : ℕ) (es : List ℕ) (l : Constraint) (u : Unpacke
     fits-here ps rows fit f b sh = subst (λ (x : calculus.Constraint). Fits n b x j fit) (sym constraint-is) (f n b (s .few) (subst (ConstraintIn n 8) constraint-is (s .in-terms)) sh)
 
 pub here-next : (split : Bool) (n : ℕ) (ls : List calculus.Constraint) (i j end : ℕ) (l : Constraint) → Here split n ls i j end l → Here split n ls i (j + 1) end l
-here-next split n ls i j end l s = record { in-problem = s .in-problem; begun = omega (arith, s .begun); ends = s .ends; in-terms = s .in-terms; in-range = s .in-range; few = s .few; opened = s .opened }
+here-next split n ls i j end l s = record { in-problem = s .in-problem; begun = omega (arith, s .begun); ends = s .ends; in-terms = s .in-terms; in-range = s .in-range; few = s .few; entries = s .entries; opened = s .opened; handled = s .handled }

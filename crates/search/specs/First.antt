@@ -2,7 +2,7 @@
 use mathlib.Core.Path.{_≡_}
 use mathlib.Core.Bool.{Bool, cond}
 use mathlib.Core.Option.{Option, none, some}
-use mathlib.Core.List.{List}
+use mathlib.Core.List.{List, map}
 use Prim.Native.Nat.{ℕ, _^_, _<_}
 use lib.ListN.{length, getD}
 use lib.Dec.{eqb}
@@ -14,9 +14,9 @@ use Rattle.calculus.specs.Branch.{Branch, rootAt, known}
 use Rattle.calculus.specs.Search.{Candidate, candidates}
 use Rattle.calculus.specs.Reading.{read}
 use Rattle.problem.specs.declared.Totals.{Totals}
-use Rattle.problem.specs.Table.{Tabled, constraintsOf, noConstraint, listed as listOf}
+use Rattle.problem.specs.Table.{Tabled, constraintsOf, noConstraint}
 use Rattle.constraints.specs.declared.Constraint.the-variants.{Same}
-use Rattle.constraints.specs.Decoded.{decoded}
+use Rattle.constraints.specs.Decoded.{decoded, Handled}
 use Rattle.places.specs.Places.{spanOf, InSpan, moveAt, entriesOf, offers}
 use Rattle.search.specs.declared.Found.{Found}
 
@@ -60,13 +60,15 @@ firstPlace split n ls b = first (λ (c : Candidate). applies (known b) (c .move)
 abbrev pub spot : Found → ℕ → Spot
 spot r position = record { constraint = r .number; rule = r .rule; position = position }
 
--- An answer tells a place: the root is the one concerned there, and the constraint is the one decoded.
+-- An answer tells a place: the root is the one concerned there, and the constraint is the one decoded, with its entries.
 pub record Located (split : Bool) (n : ℕ) (ls : List Constraint) (b : Branch) (r : Found) (position : ℕ) : Type 0 where
   pub within : Within split n ls b (spot r position)
   pub concerns : moveAt b (getD ls (r .number) noConstraint) (r .rule) position .0 ≡ term (r .root .0)
   pub low : r .root .0 < n
   pub rooted : rootAt b (r .root .0) ≡ r .root .0
-  pub opened : getD ls (r .number) noConstraint ≡ decoded (listOf (getD ls (r .number) noConstraint)) (r .constraint)
+  pub entries : List ℕ
+  pub opened : getD ls (r .number) noConstraint ≡ decoded (map term entries) (r .constraint)
+  pub handled : Handled entries (r .constraint)
 
 -- The answer where nothing is found.
 abbrev pub nowhere : Found

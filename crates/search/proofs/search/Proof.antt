@@ -98,7 +98,7 @@ loop-holds : tie.Need-loop-holds Inv-loop2 μ-loop2 Inv-loop μ-loop Inv-search 
 loop-holds c =
     let s = c .before .before .before .before .before .before .before .before .before .before .before .before .before .before .before .before .before .before in let k = c .before .before .before .before .before .before .before .before .before in let d = stands-there _ _ _ (s .pre .0 .tabled .opened) (k .search-test .taken) in
     let v = k .before .search .inv in let r = c .before .before .before .before .before .before .span-of .ensures _ (kind-is _ _ _ (d .1)) in
-    (v .0, here-start _ _ _ _ (c .before .list-at .ensures) _ (s .pre .0 .tabled .opened) _ (omega (arith, k .search-test .taken, constraint-count _ _ (s .pre .0 .tabled .opened))) _ _ (r .0) (r .1) (c .before .before .decode-at .ensures), λ b z. rules-start _ _ _ b _ (v .1 b z) _ _ (r .0) (r .1))
+    (v .0, here-start _ _ _ _ (c .before .list-at .ensures) _ (s .pre .0 .tabled .opened) _ (omega (arith, k .search-test .taken, constraint-count _ _ (s .pre .0 .tabled .opened))) _ _ (r .0) (r .1), λ b z. rules-start _ _ _ b _ (v .1 b z) _ _ (r .0) (r .1))
 
 fitting-requires : tie.Need-fitting-requires Inv-loop2 μ-loop2 Inv-loop μ-loop Inv-search μ-search
 fitting-requires c κs =
