@@ -1,5 +1,5 @@
 -- What is done next in a branch, by the places that the two searches find.
-use mathlib.Core.Path.{_≡_, ap, _∙_}
+use mathlib.Core.Path.{_≡_, refl, ap, _∙_}
 use mathlib.Core.Bool.{Bool, true, false}
 use mathlib.Core.Option.{Option, none, some}
 use mathlib.Core.List.{List, [], _∷_, map}
@@ -31,12 +31,10 @@ module _ (n m : ℕ) (k : List Term) (ls : List Constraint) (li : Each (Constrai
   none-next e f = restrict-next n m k ls li am b fall
       ∙ ap (λ (o : Option Candidate). restrictNext n (taken k b o)) (first-none-app applying (candidates (propagations (rootsOf n b) b) 0 ls) (candidates (splits (rootsOf n b) b) 0 ls) e ∙ f)
 
-  pub propagation-next : (c : Candidate) → firstPlace false n ls b ≡ some c → next n k ls (restrict n b) ≡ step (recordAt c) (map (restrict n) (children k b (c .move)))
+  -- the first place that was found is the next step's: that of a split, where no propagation rule applies
+  pub found-next : (split : Bool) (c : Candidate) → (split ≡ true → firstPlace false n ls b ≡ none) → firstPlace split n ls b ≡ some c → next n k ls (restrict n b) ≡ step (recordAt c) (map (restrict n) (children k b (c .move)))
   unfolding next firstPlace
-  propagation-next c e = restrict-next n m k ls li am b fall
+  found-next false c s e = restrict-next n m k ls li am b fall
       ∙ ap (λ (o : Option Candidate). restrictNext n (taken k b o)) (first-left applying (candidates (propagations (rootsOf n b) b) 0 ls) (candidates (splits (rootsOf n b) b) 0 ls) c e)
-
-  pub split-next : (c : Candidate) → firstPlace false n ls b ≡ none → firstPlace true n ls b ≡ some c → next n k ls (restrict n b) ≡ step (recordAt c) (map (restrict n) (children k b (c .move)))
-  unfolding next firstPlace
-  split-next c e f = restrict-next n m k ls li am b fall
-      ∙ ap (λ (o : Option Candidate). restrictNext n (taken k b o)) (first-none-app applying (candidates (propagations (rootsOf n b) b) 0 ls) (candidates (splits (rootsOf n b) b) 0 ls) e ∙ f)
+  found-next true c s e = restrict-next n m k ls li am b fall
+      ∙ ap (λ (o : Option Candidate). restrictNext n (taken k b o)) (first-none-app applying (candidates (propagations (rootsOf n b) b) 0 ls) (candidates (splits (rootsOf n b) b) 0 ls) (s refl) ∙ e)

@@ -1,5 +1,5 @@
 -- What an opened table says of the problem: its terms, constants and sets are within bounds, and every constraint is in range.
-use mathlib.Core.Path.{_≡_}
+use mathlib.Core.Path.{_≡_, refl}
 use mathlib.Core.List.{List}
 use Prim.Native.Nat.{ℕ, _<_, _≤_}
 use native.Mathlib.Omega.{arith}
@@ -14,10 +14,10 @@ use Rattle.problem.specs.declared.Table.{Table}
 use Rattle.problem.specs.Table.{problemTable, Opened, Stands, constraintsOf, witnessOf}
 use Rattle.problem.proofs.Access.{opened, opened-sizes, constraint-count}
 use Rattle.branch.specs.declared.Branch.{Branch}
-use Rattle.branch.specs.Held.{Good}
+use Rattle.branch.specs.Held.{held, Sound}
 use Rattle.branch.proofs.Restricting.{Among}
 use Rattle.constraints.proofs.Decoding.{stands-there}
-use Rattle.guards.specs.Guarded.{Standing}
+use Rattle.rules.specs.Words.{Lent, Shown}
 use Rattle.solver.specs.Outcomes.{constants, constraints}
 
 module _ (bs : List ℕ) (tab : Table) (o : Opened bs tab) where
@@ -35,13 +35,17 @@ module _ (bs : List ℕ) (tab : Table) (o : Opened bs tab) where
   pub terms-few : tab .terms ≤ 64
   terms-few = opened-sizes bs tab o .2
 
-  -- a branch of the run stands as the search wants it
-  pub standing : (b : Branch) → Good (tab .constants) b → Standing (tab .terms) (b .parents) (b .insides) (b .outsides)
-  standing b g = record { falls = g .falls; sized = g .sized; sized-in = g .sized-in; sized-out = g .sized-out; few = terms-few }
-
   pub place-there : (i : ℕ) → i < length (constraints bs tab) → i < tab .constraints
   place-there i l = omega (arith, constraint-count bs tab o)
 
   -- a constraint of the problem stands where the table says, and so does its witness
   pub stands : (i : ℕ) → i < length (constraints bs tab) → (i < 48) × Stands bs i (getD (tab .offsets) i 0) × (term (getD (tab .witnesses) i 0) ≡ witnessOf bs i)
   stands i l = stands-there bs tab i o (place-there i l)
+
+-- a branch of the run, as it is lent to a search
+module _ {cs : List Term} {b : Branch} (s : Sound cs b) where
+  pub lent : Lent (b .parents) (b .rows)
+  lent = record { rooted = record { sized = s .good .sized; falls = s .good .falls }; long = s .rowed .rows .long }
+
+  pub shows : Shown (held b) (b .parents) (b .rows)
+  shows = record { parents-are = refl; rows-are = s .rowed .rows }

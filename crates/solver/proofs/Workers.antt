@@ -1,33 +1,41 @@
--- The two workers: what a branch comes to, by its propagation and its split, and what the children of a split come to.
+-- The two workers: what a branch comes to by its propagation and its split, and what the children of a split come to, one after the other.
 use mathlib.Core.Path.{_≡_, refl, sym, ap, _∙_, subst}
 use mathlib.Core.Bool.{Bool, true, false}
-use mathlib.Core.Option.{some}
-use mathlib.Core.List.{List, [], map}
-use Prim.Native.Nat.{ℕ, _+_, _*_, _-_, _<_, _≤_}
+use mathlib.Core.Option.{none, some}
+use mathlib.Core.List.{List, [], _∷_, map}
+use Prim.Native.Nat.{ℕ, _+_, _*_, _-_, _^_, _<_, _≤_}
 use native.Mathlib.Omega.{arith}
 use native.Mathlib.Numerals.{add-one}
-use lib.ListN.{length}
+use lib.ListN.{length, getD}
 use lib.Dec.{leb}
-use borrow.Author.Tests.{eq-eqb}
+use lib.Count.{ones}
 use Rattle.calculus.specs.Lists.{upFrom, picked}
-use Rattle.calculus.specs.Terms.{term}
-use Rattle.calculus.specs.Meaning.{Constraint}
+use Rattle.calculus.specs.Terms.{Term, term}
+use Rattle.calculus.specs.Relations.{equal, union, disjoint, subset, intersection}
+use Rattle.calculus.specs.Meaning.{Constraint, member, nonmember, same, different, relation, negation, exactly, interval}
 use Rattle.calculus.specs.Branch as calculus
 use Rattle.calculus.specs.Search.{step, next}
 use Rattle.calculus.specs.Forms.{recordOf}
 use Rattle.problem.specs.declared.Table.{Table}
-use Rattle.problem.specs.Table.{Opened}
+use Rattle.problem.specs.Table.{Opened, constraintOf, noConstraint, listed as listOf}
 use Rattle.branch.specs.declared.Branch.{Branch}
 use Rattle.branch.specs.declared.Asserted.{Asserted}
-use Rattle.branch.specs.Held.{held, restrict, resultOf, Good}
-use Rattle.branch.proofs.Laws.{answered, refusing}
+use Rattle.branch.specs.Held.{held, rootOf, restrict, resultOf}
+use Rattle.branch.proofs.Laws.{refusing}
+use Rattle.branch.proofs.Roots.{root-is}
+use Rattle.constraints.specs.declared.Constraint.{Constraint as Coded}
+use Rattle.constraints.specs.declared.Constraint.the-variants.{Member, Nonmember, Same as Equated, Different, Related, Negated, Exactly, Interval}
 use Rattle.constraints.specs.Decoded.{decoded, Unpacked}
-use Rattle.constraints.specs.declared.Constraint as code
-use Rattle.places.specs.Places.{RuleOf}
+use Rattle.places.specs.Places.{InSpan, splitSpan, entriesOf, moveAt}
 use Rattle.places.specs.Alternatives.{slotsOf, childOf}
-use Rattle.places.proofs.Slots.{children-slots, move-rule}
-use Rattle.search.specs.declared.Place.{Place}
-use Rattle.search.specs.First.{candidateAt, Finds}
+use Rattle.places.proofs.Slots.{children-slots}
+use Rattle.search.specs.declared.Found.{Found}
+use Rattle.search.specs.First.{firstPlace}
+use Rattle.step.specs.declared.Turn.{Turn}
+use Rattle.step.specs.Acts.{performed}
+use Rattle.step.specs.Left.{Left, Free, Turns}
+use Rattle.step.proofs.Turning.{left-count, taken-open, left-closed}
+use Rattle.step.proofs.Choosing.{applies-free}
 use Rattle.output.specs.declared.Counts.{Counts}
 use Rattle.output.specs.State.{State, putAt, state, counted, listed, noted, Fine}
 use Rattle.output.proofs.Buffers.{put-length}
@@ -35,12 +43,12 @@ use Rattle.output.proofs.Listing.{noted-there}
 use Rattle.output.proofs.Playing.{play-kept}
 use Rattle.output.proofs.Tallied.{log-shaped}
 use Rattle.solver.specs.declared.Inferred.{Inferred}
-use Rattle.solver.specs.Outcomes.{constants, constraints, placed, shown, remaining, events, Outcome, Leads, kept, ChildrenOutcome, SplitOutcome, splitRecord, Settled, Splits, Going, Settles}
+use Rattle.solver.specs.declared.Split.{Split}
+use Rattle.solver.specs.Outcomes.{constants, constraints, placed, shown, remaining, events, Outcome, Leads, childrenFrom, ChildrenOutcome, SplitOutcome, Settled, Splits, Begun, Settles}
 use Rattle.solver.proofs.Opening.{in-range, among}
-use Rattle.solver.proofs.NextLaws.{none-next, split-next}
-use Rattle.solver.proofs.Working.{some-left, solved-outcome, spent-outcome, split-outcome, children-done, children-skip, children-next, children-stop}
-use Rattle.solver.proofs.Taking.{found-some, rule-of, here-is, split-taken}
-use Rattle.solver.proofs.Inferring.{child-good, child-less}
+use Rattle.solver.proofs.NextLaws.{none-next}
+use Rattle.solver.proofs.Working.{solved-outcome, spent-outcome, split-outcome, children-done, children-skip, children-next, children-stop}
+use Rattle.solver.proofs.Taking.{Taking, Made, here-is, ruled, applying, stepped, given, child-less, acted}
 
 -- a listed form leaves the trace as it is
 listed-trace : (n : ℕ) (r : List ℕ) (c d : Counts) (F G : List ℕ) → state d G [] ≡ listed n r (state c F []) → (T : List ℕ) → state d G T ≡ listed n r (state c F T)
@@ -55,139 +63,203 @@ pub same-room : (n f g m : ℕ) → f ≡ g → 3 * n * g ≤ m → 3 * n * f �
 same-room n f g m e l = rw e l
 
 -- counts and buffers stay within their bounds
-pub outcome-fine : (bs : List ℕ) (tab : Table) (budget : ℕ) (b : Branch) (s t : State) → Fine (tab .terms) budget s → Outcome bs tab budget b s t → Fine (tab .terms) budget t
+outcome-fine : (bs : List ℕ) (tab : Table) (budget : ℕ) (b : Branch) (s t : State) → Fine (tab .terms) budget s → Outcome bs tab budget b s t → Fine (tab .terms) budget t
 unfolding Outcome
 outcome-fine bs tab budget b s t f q =
     subst (Fine (tab .terms) budget) (sym (q (remaining bs tab b) (omega arith)))
     (play-kept (tab .terms) budget s f (events bs tab (remaining bs tab b) (shown bs tab b)) (log-shaped (tab .terms) (constants bs tab) (constraints bs tab) (remaining bs tab b) (shown bs tab b)) .fine)
 
--- ---- the split of a branch
+-- ---- a split is at a root
 
-module _ (bs : List ℕ) (tab : Table) (o : Opened bs tab) (b : Branch) (good : Good (tab .constants) b) (p : Place) where
-  pub splitting : Settled bs tab b → Finds true (tab .terms) (constraints bs tab) (held b) p → ¬ (p .rule ≡ 0) → Splits bs tab b p
-  splitting e f n = record { settled = e; first-is = f .first-is; some-rule = n; within = f .within n }
+split-not-19 : (l : Constraint) (j : ℕ) → InSpan (splitSpan l) j → ¬ (j ≡ 19)
+split-not-19 (member t A) j s e = omega (arith, s .1)
+split-not-19 (nonmember t A) j s e = omega (arith, s .1)
+split-not-19 (same t u) j s e = omega (arith, s .1)
+split-not-19 (different t u) j s e = omega (arith, s .1)
+split-not-19 (relation equal A B C) j s e = omega (arith, s .1)
+split-not-19 (relation union A B C) j s e = omega (arith, s .1)
+split-not-19 (relation disjoint A B C) j s e = omega (arith, s .1)
+split-not-19 (relation subset A B C) j s e = omega (arith, s .1)
+split-not-19 (relation intersection A B C) j s e = omega (arith, s .1)
+split-not-19 (negation k A B C w) j s e = omega (arith, s .1)
+split-not-19 (exactly A es) j s e = omega (arith, s .0)
+split-not-19 (interval A i k) j s e = omega (arith, s .0)
 
-  -- and the other way round
-  pub split-finds : Splits bs tab b p → Finds true (tab .terms) (constraints bs tab) (held b) p
-  split-finds w = record { first-is = w .first-is; within = λ _. w .within; none = λ z. absurd (w .some-rule z) }
+-- the entries of a constraint that is decoded are told by it
+indices : (es : List ℕ) → map (λ (t : Term). t .index) (map term es) ≡ es
+indices [] = refl
+indices (e ∷ es) = ap (λ (x : List ℕ). e ∷ x) (indices es)
 
-  module _ (w : Splits bs tab b p) where
-    pub split-step : next (tab .terms) (constants bs tab) (constraints bs tab) (shown bs tab b) ≡ step (splitRecord bs tab b p) (kept bs tab b (placed bs tab p) (p .rule) (p .position) 0)
-    split-step =
-        let r : RuleOf (placed bs tab p) (p .rule) = rule-of true (placed bs tab p) (p .rule) (w .within .of-rule) in
-        let e = split-next (tab .terms) (tab .sets) (constants bs tab) (constraints bs tab) (in-range bs tab o) (among bs tab o) (held b) (good .falls) (candidateAt (constraints bs tab) (held b) p) (w .settled) (w .first-is ∙ found-some (constraints bs tab) (held b) p (w .some-rule)) in
-        let z : slotsOf (placed bs tab p) (p .rule) ≡ slotsOf (placed bs tab p) (p .rule) - 0 = omega arith in
-        e ∙ rw (move-rule (held b) (p .position) (placed bs tab p) (p .rule) r) refl
-        ∙ ap (λ (cs : List calculus.Branch). step (splitRecord bs tab b p) (map (restrict (tab .terms)) cs))
-        (children-slots (constants bs tab) (held b) (placed bs tab p) (p .rule) (p .position) r ∙ ap (λ (k : ℕ). picked (childOf (constants bs tab) (held b) (placed bs tab p) (p .rule) (p .position)) (upFrom 0 k)) z)
+unpacked-same : {bs : List ℕ} {i : ℕ} {es fs : List ℕ} {l : Coded} → Unpacked bs i es l → Unpacked bs i fs l → es ≡ fs
+unpacked-same {es = es} {fs = fs} u v =
+    let w : map term es ≡ map term fs = sym (u .handled .entries-are) ∙ ap entriesOf (sym (u .is) ∙ v .is) ∙ v .handled .entries-are in
+    sym (indices es) ∙ ap (map (λ (t : Term). t .index)) w ∙ indices fs
 
-    -- a problem with a step has terms
-    pub some-terms : tab .terms ≡ 0 → ⊥
-    unfolding remaining
-    some-terms z = some-left bs tab o 0 b good _ _ split-step (rw z (omega arith))
+-- the list that a constraint is decoded with is its own
+pub own-list : (ts : List Term) (l : Coded) → decoded ts l ≡ decoded (listOf (decoded ts l)) l
+own-list ts (Member t A) = refl
+own-list ts (Nonmember t A) = refl
+own-list ts (Equated t u) = refl
+own-list ts (Different t u) = refl
+own-list ts (Related k A B C) = refl
+own-list ts (Negated k A B C w) = refl
+own-list ts (Exactly A) = refl
+own-list ts (Interval A i j) = refl
+
+module _ {bs : List ℕ} {tab : Table} {b : Branch} {r : Found} {q : ℕ} {es : List ℕ} (s : Taking bs tab true b r q es) where
+  at-root : q ≡ r .root .0
+  at-root = ap (λ (t : Term). t .index) (sym (s .located .within .of-root (split-not-19 (placed bs tab r) (r .rule) (s .located .within .of-rule)) .1) ∙ s .located .concerns)
+
+  pub rooted : Taking bs tab true b r (r .root .0) es
+  rooted = subst (λ (p : ℕ). Taking bs tab true b r p es) at-root s
+
+  -- the constraint as `list_at` wants it
+  pub decodes : constraintOf bs (r .number) ≡ decoded (listOf (constraintOf bs (r .number))) (r .constraint)
+  decodes = rw (s .unpacked .is) (own-list (map term es) (r .constraint))
+
+-- with other entries of the same constraint
+pub relisted : {bs : List ℕ} {tab : Table} {b : Branch} {r : Found} {q : ℕ} {es fs : List ℕ} → Taking bs tab true b r q es → Unpacked bs (r .number) fs (r .constraint) → Taking bs tab true b r q fs
+relisted {bs} {tab} {b} {r} {q} s u = subst (λ (x : List ℕ). Taking bs tab true b r q x) (unpacked-same (s .unpacked) u) s
+
+module _ {bs : List ℕ} {tab : Table} {b : Branch} {r : Found} {es : List ℕ} (s : Taking bs tab true b r (r .root .0) es) where
+  abbrev this : Constraint
+  this = decoded (map term es) (r .constraint)
+
+  -- where rule 20 applies the root is that of no entry
+  pub free : r .rule ≡ 20 → Free (b .parents) es (r .root .0)
+  free e = applies-free (held b) (r .root .0) (sym (root-is (held b) (r .root .0)) ∙ s .located .rooted) es (r .constraint) (s .unpacked .handled) (r .rule) (ruled s) e (applying s)
+
+  module _ (word : ℕ) (small : word < 2 ^ 64) (left : Left (constants bs tab) (held b) this es (r .rule) (r .root .0) 0 word) where
+    -- the bits are as many as the children
+    pub left-number : ones word ≡ length (picked (childOf (constants bs tab) (held b) this (r .rule) (r .root .0)) (upFrom 0 (slotsOf this (r .rule))))
+    left-number = left-count (constants bs tab) (held b) (s .sound .good .falls) es (r .constraint) (s .unpacked .handled) (r .rule) (r .root .0) (ruled s) word small left
+        ∙ ap length (children-slots (constants bs tab) (held b) this (r .rule) (r .root .0) (ruled s))
+
+    pub splitting : (c : Counts) → Splits bs tab (record { branch = b; found = r; left = word; counts = c })
+    splitting c = record {
+      sound = s .sound;
+      settled = s .settled refl;
+      some-rule = s .some-rule;
+      first-is = s .first-is;
+      located = s .located;
+      left = λ fs u. subst (λ (x : List ℕ). Left (constants bs tab) (held b) (decoded (map term x) (r .constraint)) x (r .rule) (r .root .0) 0 word) (unpacked-same (s .unpacked) u) left;
+    }
+
+-- and back
+pub split-taking : {bs : List ℕ} {tab : Table} {s : Split} → Opened bs tab → Splits bs tab s → {es : List ℕ} → Unpacked bs (s .found .number) es (s .found .constraint) → Taking bs tab true (s .branch) (s .found) (s .found .root .0) es
+split-taking o w u = record { opened = o; sound = w .sound; settled = λ _. w .settled; some-rule = w .some-rule; first-is = w .first-is; located = w .located; unpacked = u }
+
+pub split-decodes : {bs : List ℕ} {tab : Table} {s : Split} → Splits bs tab s → constraintOf bs (s .found .number) ≡ decoded (listOf (constraintOf bs (s .found .number))) (s .found .constraint)
+unfolding constraintOf
+split-decodes {s = s} w = rw (w .located .opened) (own-list (map term (w .located .entries)) (s .found .constraint))
 
 -- ---- a branch that propagation has settled
 
-module _ (bs : List ℕ) (tab : Table) (o : Opened bs tab) (budget : ℕ) (b : Branch) (c : Counts) (F T : List ℕ) (r : Inferred) (U : List ℕ) (set : Settles bs tab budget b c T r U) (z : r .settled ≡ true)
-    (p : Place) (f : Finds true (tab .terms) (constraints bs tab) (held (r .branch)) p) where
+module _ {bs : List ℕ} {tab : Table} {budget : ℕ} {b : Branch} {c : Counts} {T : List ℕ} {r : Inferred} {U : List ℕ} (o : Opened bs tab) (set : Settles bs tab budget b c T r U) (z : r .settled ≡ true) (F : List ℕ) where
   abbrev at : Branch
   at = r .branch
 
-  sound : Good (tab .constants) at
-  sound = set .good z .0
-
-  goes : Going budget (r .counts) U
-  goes = set .good z .1
-
   leading : (t : State) → Outcome bs tab budget at (state (r .counts) F U) t → Outcome bs tab budget b (state c F T) t
   unfolding Leads
-  leading t q = set .leads z .0 F t q
+  leading t q = set .reached z .leads F t q
 
-  pub works-form : p .rule ≡ 0 → (d : Counts) (G : List ℕ) → state d G [] ≡ listed (tab .terms) (recordOf (tab .terms) (held at)) (state (r .counts) F []) → Outcome bs tab budget b (state c F T) (state d G U)
+  pub works-form : firstPlace true (tab .terms) (constraints bs tab) (held at) ≡ none → (d : Counts) (G : List ℕ) → state d G [] ≡ listed (tab .terms) (recordOf (tab .terms) (held at)) (state (r .counts) F []) → Outcome bs tab budget b (state c F T) (state d G U)
   works-form q d G e =
-      let n = none-next (tab .terms) (tab .sets) (constants bs tab) (constraints bs tab) (in-range bs tab o) (among bs tab o) (held at) (sound .falls) (set .good z .3) (f .first-is ∙ rw (eq-eqb (p .rule) 0 q) refl) in
+      let sound = set .reached z .sound in
+      let n = none-next (tab .terms) (tab .sets) (constants bs tab) (constraints bs tab) (in-range bs tab o) (among bs tab o) (held at) (sound .good .falls) (set .none-applies z) q in
       leading (state d G U) (subst (Outcome bs tab budget at (state (r .counts) F U)) (sym (listed-trace (tab .terms) (recordOf (tab .terms) (held at)) (r .counts) d F G e U))
-      (solved-outcome bs tab o budget at sound (state (r .counts) F U) (goes .on) n))
+      (solved-outcome bs tab o budget at (sound .good) (state (r .counts) F U) (set .reached z .going .on) n))
 
-  module _ (n : ¬ (p .rule ≡ 0)) where
-    pub splits : Splits bs tab at p
-    splits = splitting bs tab o at sound p (set .good z .3) f n
-
+  module _ {f : Found} {q : ℕ} {es : List ℕ} (s : Taking bs tab true (r .branch) f q es) where
     pub works-spent : r .counts .steps ≡ budget → Outcome bs tab budget b (state c F T) (state (counted (r .counts .steps) (r .counts .forms) 1) F U)
-    works-spent q = leading _ (spent-outcome bs tab o budget at sound (state (r .counts) F U) (goes .on) _ _ (split-step bs tab o at sound p splits) q)
+    works-spent e = leading _ (spent-outcome bs tab o budget at (s .sound .good) (state (r .counts) F U) (set .reached z .going .on) _ _ (stepped s) e)
 
-    -- the state after the step is noted
-    module _ (more : ¬ (r .counts .steps ≡ budget)) (V₁ : List ℕ) (e : V₁ ≡ putAt U (4 * r .counts .steps) (splitRecord bs tab at p)) where
-      after : state (counted (r .counts .steps + 1) (r .counts .forms) 0) F V₁ ≡ noted budget (splitRecord bs tab at p) (state (r .counts) F U)
-      after = rw (e, add-one (r .counts .steps)) (sym (noted-there budget (splitRecord bs tab at p) (state (r .counts) F U) (omega (arith, goes .within))))
+  module _ {f : Found} {es : List ℕ} (s : Taking bs tab true (r .branch) f (f .root .0) es) (more : ¬ (r .counts .steps ≡ budget)) (n : ℕ) (ns : n ≡ length (picked (childOf (constants bs tab) (held (r .branch)) (decoded (map term es) (f .constraint)) (f .rule) (f .root .0)) (upFrom 0 (slotsOf (decoded (map term es) (f .constraint)) (f .rule))))) (W : List ℕ) (e : W ≡ putAt U (4 * r .counts .steps) (f .rule ∷ f .number ∷ f .root .0 ∷ n ∷ [])) where
+    -- the record of the split
+    abbrev line : List ℕ
+    line = f .rule ∷ f .number ∷ f .root .0 ∷ n ∷ []
 
-      pub works-split : (t : State) → SplitOutcome bs tab budget at p (state (counted (r .counts .steps + 1) (r .counts .forms) 0) F V₁) t → Outcome bs tab budget b (state c F T) t
-      works-split t q = leading t (split-outcome bs tab o budget at sound (state (r .counts) F U) (goes .on) (placed bs tab p) (p .rule) (p .position) (splitRecord bs tab at p) (split-step bs tab o at sound p splits) t
-          (subst (λ (s : State). SplitOutcome bs tab budget at p s t) after q))
+    abbrev noted-counts : Counts
+    noted-counts = counted (r .counts .steps + 1) (r .counts .forms) 0
 
-      pub split-fine : Fine (tab .terms) budget (state c F T) → Fine (tab .terms) budget (state (counted (r .counts .steps + 1) (r .counts .forms) 0) F V₁)
-      split-fine g = record {
-        within = omega (arith, goes .within);
+    -- the state after it is noted
+    after : state noted-counts F W ≡ noted budget line (state (r .counts) F U)
+    after = rw (e, add-one (r .counts .steps)) (sym (noted-there budget line (state (r .counts) F U) (omega (arith, set .reached z .going .within))))
+
+    next-is : next (tab .terms) (constants bs tab) (constraints bs tab) (shown bs tab at) ≡ step line (childrenFrom bs tab at (placed bs tab f) (f .rule) (f .root .0) 0)
+    next-is =
+        let l : Constraint = decoded (map term es) (f .constraint) in
+        let y : slotsOf l (f .rule) ≡ slotsOf l (f .rule) - 0 = omega arith in
+        stepped s ∙ rw (ns, here-is s) (ap (λ (k : ℕ). step (f .rule ∷ f .number ∷ f .root .0 ∷ length (picked (childOf (constants bs tab) (held at) l (f .rule) (f .root .0)) (upFrom 0 (slotsOf l (f .rule)))) ∷ []) (map (restrict (tab .terms)) (picked (childOf (constants bs tab) (held at) l (f .rule) (f .root .0)) (upFrom 0 k)))) y)
+
+    pub works-split : (t : State) → SplitOutcome bs tab budget at f (state noted-counts F W) t → Outcome bs tab budget b (state c F T) t
+    works-split t x = leading t (split-outcome bs tab o budget at (s .sound .good) (state (r .counts) F U) (set .reached z .going .on) (placed bs tab f) (f .rule) (f .root .0) line next-is t (subst (λ (y : State). SplitOutcome bs tab budget at f y t) after x))
+
+    pub split-begun : Fine (tab .terms) budget (state c F T) → Begun (tab .terms) budget (state noted-counts F W)
+    split-begun g = record {
+      on = refl;
+      fine = record {
+        within = omega (arith, set .reached z .going .within);
         few = g .few;
-        traced = omega (arith, goes .traced, ap length e, put-length U (4 * r .counts .steps) (splitRecord bs tab at p) (omega (arith, goes .traced, goes .within)));
-        written = subst (λ (k : ℕ). 3 * tab .terms * k ≤ length F) (sym (set .good z .2)) (g .written);
-      }
+        traced = omega (arith, set .reached z .going .traced, ap length e, put-length U (4 * r .counts .steps) line (omega (arith, set .reached z .going .traced, set .reached z .going .within)));
+        written = subst (λ (k : ℕ). 3 * tab .terms * k ≤ length F) (sym (set .reached z .same)) (g .written);
+      };
+      no-terms = λ y. absurd (omega (arith, s .located .low));
+    }
 
 -- ---- the children of a split
 
--- a number below their count
-pub slot-there : (k n m : ℕ) → k < n → n ≡ m → k < m
-slot-there k n m l e = omega (arith, e)
-
 -- what the loop keeps at child k, from counts c and buffers F, T to where it is now
-pub record Worked (bs : List ℕ) (tab : Table) (budget : ℕ) (b : Branch) (p : Place) (es : List ℕ) (l : code.Constraint) (c : Counts) (F T : List ℕ) (k : ℕ) (d : Counts) (G U : List ℕ) : Type 0 where
-  pub leads : (t : State) → ChildrenOutcome bs tab budget b (decoded (map term es) l) (p .rule) (p .position) k (state d G U) t → SplitOutcome bs tab budget b p (state c F T) t
-  pub fine : Fine (tab .terms) budget (state d G U)
-  pub on : d .stop ≡ 0
+pub record Worked (bs : List ℕ) (tab : Table) (budget : ℕ) (b : Branch) (r : Found) (es : List ℕ) (c : Counts) (F T : List ℕ) (k word : ℕ) (d : Counts) (G U : List ℕ) : Type 0 where
+  pub leads : (t : State) → ChildrenOutcome bs tab budget b (decoded (map term es) (r .constraint)) (r .rule) (r .root .0) k (state d G U) t → SplitOutcome bs tab budget b r (state c F T) t
+  pub begun : Begun (tab .terms) budget (state d G U)
+  pub left : Left (constants bs tab) (held b) (decoded (map term es) (r .constraint)) es (r .rule) (r .root .0) k word
 
-module _ (bs : List ℕ) (tab : Table) (o : Opened bs tab) (budget : ℕ) (b : Branch) (good : Good (tab .constants) b) (p : Place) (w : Splits bs tab b p)
-    (es : List ℕ) (l : code.Constraint) (u : Unpacked bs (p .constraint) es l) where
-  abbrev this : Constraint
-  this = decoded (map term es) l
-
-  pub worked-begin : (c : Counts) (F T : List ℕ) → Fine (tab .terms) budget (state c F T) → c .stop ≡ 0 → Worked bs tab budget b p es l c F T 0 c F T
-  worked-begin c F T f z = record {
-    leads = λ t q. subst (λ (x : Constraint). ChildrenOutcome bs tab budget b x (p .rule) (p .position) 0 (state c F T) t) (sym (here-is bs tab o b good true p (w .within) es l u)) q;
-    fine = f;
-    on = z;
+module _ {bs : List ℕ} {tab : Table} {b : Branch} {r : Found} {es : List ℕ} {budget : ℕ} {c : Counts} {F T : List ℕ} (s : Taking bs tab true b r (r .root .0) es) where
+  pub worked-begin : {word : ℕ} → Left (constants bs tab) (held b) (decoded (map term es) (r .constraint)) es (r .rule) (r .root .0) 0 word → Begun (tab .terms) budget (state c F T) → Worked bs tab budget b r es c F T 0 word c F T
+  worked-begin L g = record {
+    leads = λ t q. subst (λ (x : Constraint). ChildrenOutcome bs tab budget b x (r .rule) (r .root .0) 0 (state c F T) t) (sym (here-is s)) q;
+    begun = g;
+    left = L;
   }
 
-  module _ (c : Counts) (F T : List ℕ) (k : ℕ) (d : Counts) (G U : List ℕ) (v : Worked bs tab budget b p es l c F T k d G U) where
-    pub worked-done : slotsOf this (p .rule) ≤ k → SplitOutcome bs tab budget b p (state c F T) (state d G U)
-    worked-done h = v .leads (state d G U) (children-done bs tab budget b this (p .rule) (p .position) k (state d G U) h)
+  module _ {k word : ℕ} {d : Counts} {G U : List ℕ} (v : Worked bs tab budget b r es c F T k word d G U) where
+    pub worked-done : slotsOf (decoded (map term es) (r .constraint)) (r .rule) ≤ k → SplitOutcome bs tab budget b r (state c F T) (state d G U)
+    worked-done h = v .leads (state d G U) (children-done bs tab budget b (decoded (map term es) (r .constraint)) (r .rule) (r .root .0) k (state d G U) h)
 
-    module _ (lt : k < slotsOf this (p .rule)) (r : Asserted) (er : childOf (constants bs tab) (held b) this (p .rule) (p .position) k ≡ resultOf r) where
-      pub worked-skip : r .conflict ≡ true → Worked bs tab budget b p es l c F T (k + 1) d G U
-      worked-skip q = rw (add-one k) record {
-        leads = λ t x. v .leads t (children-skip bs tab budget b this (p .rule) (p .position) k (state d G U) lt
-            (refusing (childOf (constants bs tab) (held b) this (p .rule) (p .position) k) r er q) t x);
-        fine = v .fine;
-        on = v .on;
+    module _ (lt : k < slotsOf (decoded (map term es) (r .constraint)) (r .rule)) {t : Turn} (u : Turns (b .parents) es (decoded (map term es) (r .constraint)) (r .rule) (r .root .0) k word t) where
+      asserts : childOf (constants bs tab) (held b) (decoded (map term es) (r .constraint)) (r .rule) (r .root .0) k ≡ resultOf (performed b (t .act))
+      asserts = u .asserts (constants bs tab) b refl (s .sound .good) (s .sound .rowed .fixed) (v .left)
+
+      after-turn : Left (constants bs tab) (held b) (decoded (map term es) (r .constraint)) es (r .rule) (r .root .0) (k + 1) (t .left)
+      after-turn = u .leaves (constants bs tab) (held b) refl (v .left)
+
+      pub worked-skip : t .taken ≡ false → Worked bs tab budget b r es c F T (k + 1) (t .left) d G U
+      worked-skip e = record {
+        leads = λ x y. v .leads x (children-skip bs tab budget b (decoded (map term es) (r .constraint)) (r .rule) (r .root .0) k (state d G U) lt
+            (refusing (childOf (constants bs tab) (held b) (decoded (map term es) (r .constraint)) (r .rule) (r .root .0) k) (performed b (t .act)) asserts (left-closed u (constants bs tab) b refl (s .sound .good) (s .sound .rowed .fixed) (v .left) e)) x (rw (add-one k) at y));
+        begun = v .begun;
+        left = after-turn;
       }
 
-      module _ (q : r .conflict ≡ false) where
-        there : childOf (constants bs tab) (held b) this (p .rule) (p .position) k ≡ some (held (r .branch))
-        there = answered (childOf (constants bs tab) (held b) this (p .rule) (p .position) k) r er q
+      module _ (e : t .taken ≡ true) {a : Asserted} (p : a ≡ performed b (t .act)) where
+        pub made : Made bs tab b r (r .root .0) es k a
+        made = acted s (t .act) lt (u .rooted) asserts p
 
-        pub worked-good : Good (tab .constants) (r .branch)
-        worked-good = child-good bs tab o b good true p (w .within) es l u k lt (r .branch) there
+        pub opens : a .conflict ≡ false
+        opens = ap (λ (x : Asserted). x .conflict) p ∙ taken-open u (constants bs tab) b refl (s .sound .good) (s .sound .rowed .fixed) (v .left) e
 
-        pub worked-less : remaining bs tab (r .branch) < remaining bs tab b
-        worked-less = child-less bs tab o b good true p (w .within) es l u k lt (r .branch) there _ _
-            (split-taken bs tab o b good true p (w .within) es l u _ _ refl refl (w .some-rule) (w .settled) (w .first-is))
-
-        module _ (x : Counts) (H W : List ℕ) (out : Outcome bs tab budget (r .branch) (state d G U) (state x H W)) where
-          pub worked-next : x .stop ≡ 0 → Worked bs tab budget b p es l c F T (k + 1) x H W
-          worked-next z = rw (add-one k) record {
-            leads = λ t y. v .leads t (children-next bs tab budget b this (p .rule) (p .position) k (state d G U) (r .branch) lt there worked-less (state x H W) out t y);
-            fine = outcome-fine bs tab budget (r .branch) (state d G U) (state x H W) (v .fine) out;
-            on = z;
+        module _ (x : Counts) (H W : List ℕ) (out : Outcome bs tab budget (a .branch) (state d G U) (state x H W)) where
+          pub worked-next : x .stop ≡ 0 → Worked bs tab budget b r es c F T (k + 1) (t .left) x H W
+          worked-next z = record {
+            leads = λ y w. v .leads y (children-next bs tab budget b (decoded (map term es) (r .constraint)) (r .rule) (r .root .0) k (state d G U) (a .branch) lt (given s made opens) (child-less s made opens) (state x H W) out y (rw (add-one k) at w));
+            begun = record {
+              on = z;
+              fine = outcome-fine bs tab budget (a .branch) (state d G U) (state x H W) (v .begun .fine) out;
+              no-terms = λ y. absurd (omega (arith, s .located .low));
+            };
+            left = after-turn;
           }
 
-          pub worked-stop : ¬ (x .stop ≡ 0) → SplitOutcome bs tab budget b p (state c F T) (state x H W)
-          worked-stop n = v .leads (state x H W) (children-stop bs tab budget b this (p .rule) (p .position) k (state d G U) (r .branch) lt there worked-less (state x H W) out n)
+          pub worked-stop : ¬ (x .stop ≡ 0) → SplitOutcome bs tab budget b r (state c F T) (state x H W)
+          worked-stop n = v .leads (state x H W) (children-stop bs tab budget b (decoded (map term es) (r .constraint)) (r .rule) (r .root .0) k (state d G U) (a .branch) lt (given s made opens) (child-less s made opens) (state x H W) out n)

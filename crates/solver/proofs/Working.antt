@@ -22,10 +22,10 @@ use Rattle.places.specs.Alternatives.{slotsOf, childOf}
 use Rattle.output.specs.State.{State, state, counted, listed, noted, event, play}
 use Rattle.output.proofs.Listing.{noted-not}
 use Rattle.output.proofs.Playing.{play-append, play-stopped}
-use Rattle.solver.specs.Outcomes.{constants, constraints, shown, remaining, events, Outcome, Leads, kept, ChildrenOutcome}
+use Rattle.solver.specs.Outcomes.{constants, constraints, shown, remaining, events, Outcome, Leads, childrenFrom, ChildrenOutcome}
 use Rattle.solver.proofs.Opening.{in-range, among, terms-few}
 
-module _ (bs : List ℕ) (tab : Table) (o : Opened bs tab) (budget : ℕ) (b : Branch) (good : Good (tab .constants) b) where
+module _ (bs : List ℕ) (tab : Table) (o : Opened bs tab) (budget : ℕ) (b : Branch) (good : Good (constants bs tab) b) where
   abbrev this : calculus.Branch
   this = shown bs tab b
 
@@ -86,9 +86,9 @@ module _ (bs : List ℕ) (tab : Table) (o : Opened bs tab) (budget : ℕ) (b : B
     step-leads r c e l t f = step-outcome r (shown bs tab c ∷ []) e t (λ fuel h. f fuel (omega arith) ∙ ap (play (tab .terms) budget (noted budget r s)) (sym (append-nil (events bs tab fuel (shown bs tab c)))))
 
     -- a split leads to its children
-    pub split-outcome : (l : Constraint) (j p : ℕ) (r : List ℕ) → nextIs (step r (kept bs tab b l j p 0)) → (t : State) → ChildrenOutcome bs tab budget b l j p 0 (noted budget r s) t → Outcome bs tab budget b s t
+    pub split-outcome : (l : Constraint) (j p : ℕ) (r : List ℕ) → nextIs (step r (childrenFrom bs tab b l j p 0)) → (t : State) → ChildrenOutcome bs tab budget b l j p 0 (noted budget r s) t → Outcome bs tab budget b s t
     unfolding ChildrenOutcome
-    split-outcome l j p r e t f = step-outcome r (kept bs tab b l j p 0) e t f
+    split-outcome l j p r e t f = step-outcome r (childrenFrom bs tab b l j p 0) e t f
 
 -- ---- the children of a split, one by one
 
@@ -96,8 +96,8 @@ module _ (bs : List ℕ) (tab : Table) (budget : ℕ) (b : Branch) (l : Constrai
   abbrev here : Option calculus.Branch
   here = childOf (constants bs tab) (held b) l j p k
 
-  kept-at : k < slotsOf l j → kept bs tab b l j p k ≡ map (restrict (tab .terms)) (picked (childOf (constants bs tab) (held b) l j p) (k ∷ upFrom (suc k) (slotsOf l j - suc k)))
-  kept-at h = let q : slotsOf l j - k ≡ suc (slotsOf l j - suc k) = omega arith in rw q refl
+  childrenFrom-at : k < slotsOf l j → childrenFrom bs tab b l j p k ≡ map (restrict (tab .terms)) (picked (childOf (constants bs tab) (held b) l j p) (k ∷ upFrom (suc k) (slotsOf l j - suc k)))
+  childrenFrom-at h = let q : slotsOf l j - k ≡ suc (slotsOf l j - suc k) = omega arith in rw q refl
 
   pub children-done : slotsOf l j ≤ k → ChildrenOutcome bs tab budget b l j p k s s
   unfolding ChildrenOutcome
@@ -105,17 +105,17 @@ module _ (bs : List ℕ) (tab : Table) (budget : ℕ) (b : Branch) (l : Constrai
 
   pub children-skip : k < slotsOf l j → here ≡ none → (t : State) → ChildrenOutcome bs tab budget b l j p (suc k) s t → ChildrenOutcome bs tab budget b l j p k s t
   unfolding ChildrenOutcome
-  children-skip h e t f fuel r = rw (kept-at h, e, picked) (f fuel r)
+  children-skip h e t f fuel r = rw (childrenFrom-at h, e, picked) (f fuel r)
 
   module _ (c : Branch) (h : k < slotsOf l j) (e : here ≡ some (held c)) (fall : remaining bs tab c < remaining bs tab b) (t : State) (out : Outcome bs tab budget c s t) where
-    kept-some : kept bs tab b l j p k ≡ shown bs tab c ∷ kept bs tab b l j p (suc k)
-    kept-some = kept-at h ∙ rw (e, picked) refl
+    childrenFrom-some : childrenFrom bs tab b l j p k ≡ shown bs tab c ∷ childrenFrom bs tab b l j p (suc k)
+    childrenFrom-some = childrenFrom-at h ∙ rw (e, picked) refl
 
     first-played : (fuel : ℕ) → remaining bs tab b ≤ suc fuel
-        → play (tab .terms) budget s (gather (events bs tab fuel) (kept bs tab b l j p k)) ≡ play (tab .terms) budget t (gather (events bs tab fuel) (kept bs tab b l j p (suc k)))
+        → play (tab .terms) budget s (gather (events bs tab fuel) (childrenFrom bs tab b l j p k)) ≡ play (tab .terms) budget t (gather (events bs tab fuel) (childrenFrom bs tab b l j p (suc k)))
     unfolding Outcome
-    first-played fuel r = rw kept-some (play-append (tab .terms) budget s (events bs tab fuel (shown bs tab c)) (gather (events bs tab fuel) (kept bs tab b l j p (suc k)))
-        ∙ ap (λ (x : State). play (tab .terms) budget x (gather (events bs tab fuel) (kept bs tab b l j p (suc k)))) (sym (out fuel (omega arith))))
+    first-played fuel r = rw childrenFrom-some (play-append (tab .terms) budget s (events bs tab fuel (shown bs tab c)) (gather (events bs tab fuel) (childrenFrom bs tab b l j p (suc k)))
+        ∙ ap (λ (x : State). play (tab .terms) budget x (gather (events bs tab fuel) (childrenFrom bs tab b l j p (suc k)))) (sym (out fuel (omega arith))))
 
     pub children-next : (u : State) → ChildrenOutcome bs tab budget b l j p (suc k) t u → ChildrenOutcome bs tab budget b l j p k s u
     unfolding ChildrenOutcome
@@ -123,4 +123,4 @@ module _ (bs : List ℕ) (tab : Table) (budget : ℕ) (b : Branch) (l : Constrai
 
     pub children-stop : (t .counts .stop ≡ 0 → ⊥) → ChildrenOutcome bs tab budget b l j p k s t
     unfolding ChildrenOutcome
-    children-stop n fuel r = sym (first-played fuel r ∙ play-stopped (tab .terms) budget t n (gather (events bs tab fuel) (kept bs tab b l j p (suc k))))
+    children-stop n fuel r = sym (first-played fuel r ∙ play-stopped (tab .terms) budget t n (gather (events bs tab fuel) (childrenFrom bs tab b l j p (suc k))))

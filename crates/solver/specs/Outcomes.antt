@@ -9,7 +9,6 @@ use Rattle.calculus.specs.Lists.{upFrom, gather, picked}
 use Rattle.calculus.specs.Terms.{Term, term, termsFrom}
 use Rattle.calculus.specs.Meaning.{Constraint}
 use Rattle.calculus.specs.Branch as calculus
-use Rattle.calculus.specs.Search.{children}
 use Rattle.calculus.specs.Problem.{Problem}
 use Rattle.calculus.specs.Reading.{parsed, read}
 use Rattle.calculus.specs.Run.{Event, log, run}
@@ -17,19 +16,16 @@ use Rattle.calculus.specs.Invariants.{measure}
 use Rattle.problem.specs.declared.Table.{Table}
 use Rattle.problem.specs.Table.{constraintsOf, noConstraint}
 use Rattle.branch.specs.declared.Branch.{Branch}
-use Rattle.branch.specs.Held.{held, restrict, rootOf, Good}
-use Rattle.constraints.specs.declared.Constraint as code
+use Rattle.branch.specs.Held.{held, restrict, Sound}
 use Rattle.constraints.specs.Decoded.{decoded, Unpacked}
-use Rattle.places.specs.Places.{moveAt}
 use Rattle.places.specs.Alternatives.{slotsOf, childOf}
-use Rattle.calm.specs.Calm.{Calm}
-use Rattle.search.specs.declared.Place.{Place}
-use Rattle.search.specs.First.{firstPlace, found, Within, Finds}
-use Rattle.step.specs.Acts.{Acts}
+use Rattle.search.specs.declared.Found.{Found}
+use Rattle.search.specs.First.{firstPlace, found, spot, Located}
+use Rattle.step.specs.Left.{Left}
 use Rattle.output.specs.declared.Counts.{Counts}
-use Rattle.output.specs.State.{State, state, play, left}
-use Rattle.solver.specs.declared.Inference.{Inference}
+use Rattle.output.specs.State.{State, state, play, left, Fine}
 use Rattle.solver.specs.declared.Inferred.{Inferred}
+use Rattle.solver.specs.declared.Split.{Split}
 
 -- the problem's terms, of which the constants are the lowest, and its constraints
 module _ (bs : List ℕ) (tab : Table) where
@@ -51,17 +47,13 @@ module _ (bs : List ℕ) (tab : Table) where
   abbrev pub events : ℕ → calculus.Branch → List Event
   events fuel b = log (tab .terms) constants constraints fuel b
 
-  -- the constraint of a place
-  abbrev pub placed : Place → Constraint
-  placed p = getD constraints (p .constraint) noConstraint
-
-  -- the trace record of the step at a place: rule, constraint, root concerned, children left
-  abbrev pub splitRecord : Branch → Place → List ℕ
-  splitRecord b p = p .rule ∷ p .constraint ∷ moveAt (held b) (placed p) (p .rule) (p .position) .0 .index ∷ length (children constants (held b) (moveAt (held b) (placed p) (p .rule) (p .position) .1)) ∷ []
+  -- the constraint of what a search found
+  abbrev pub placed : Found → Constraint
+  placed r = getD constraints (r .number) noConstraint
 
   -- the children of rule j at position p of constraint l, from number k on
-  abbrev pub kept : Branch → Constraint → ℕ → ℕ → ℕ → List calculus.Branch
-  kept b l j p k = map (restrict (tab .terms)) (picked (childOf constants (held b) l j p) (upFrom k (slotsOf l j - k)))
+  abbrev pub childrenFrom : Branch → Constraint → ℕ → ℕ → ℕ → List calculus.Branch
+  childrenFrom b l j p k = map (restrict (tab .terms)) (picked (childOf constants (held b) l j p) (upFrom k (slotsOf l j - k)))
 
   module _ (budget : ℕ) where
     -- from state s working branch b comes to state r
@@ -74,22 +66,24 @@ module _ (bs : List ℕ) (tab : Table) where
 
     -- from state s working these children, from number k on, comes to state r
     unfoldable pub ChildrenOutcome : Branch → Constraint → ℕ → ℕ → ℕ → State → State → Type 0
-    ChildrenOutcome b l j p k s r = (fuel : ℕ) → remaining b ≤ suc fuel → r ≡ play (tab .terms) budget s (gather (events fuel) (kept b l j p k))
+    ChildrenOutcome b l j p k s r = (fuel : ℕ) → remaining b ≤ suc fuel → r ≡ play (tab .terms) budget s (gather (events fuel) (childrenFrom b l j p k))
 
-    -- the same, of all children of the split at place p
-    abbrev pub SplitOutcome : Branch → Place → State → State → Type 0
-    SplitOutcome b p s r = ChildrenOutcome b (placed p) (p .rule) (p .position) 0 s r
+    -- the same, of all children of the split that was found
+    abbrev pub SplitOutcome : Branch → Found → State → State → Type 0
+    SplitOutcome b r s t = ChildrenOutcome b (placed r) (r .rule) (r .root .0) 0 s t
 
   -- no propagation rule applies
   abbrev pub Settled : Branch → Type 0
   Settled b = firstPlace false (tab .terms) constraints (held b) ≡ none
 
-  -- and the first split that applies is at place p
-  pub record Splits (b : Branch) (p : Place) : Type 0 where
-    pub settled : Settled b
-    pub first-is : firstPlace true (tab .terms) constraints (held b) ≡ found constraints (held b) p
-    pub some-rule : ¬ (p .rule ≡ 0)
-    pub within : Within true (tab .terms) constraints (held b) p
+  -- the branch is settled and its first split that applies was found, at a root; the word has the children that are left
+  pub record Splits (s : Split) : Type 0 where
+    pub sound : Sound constants (s .branch)
+    pub settled : Settled (s .branch)
+    pub some-rule : ¬ (s .found .rule ≡ 0)
+    pub first-is : firstPlace true (tab .terms) constraints (held (s .branch)) ≡ found constraints (held (s .branch)) (spot (s .found) (s .found .root .0))
+    pub located : Located true (tab .terms) constraints (held (s .branch)) (s .found) (s .found .root .0)
+    pub left : (es : List ℕ) → Unpacked bs (s .found .number) es (s .found .constraint) → Left constants (held (s .branch)) (decoded (map term es) (s .found .constraint)) es (s .found .rule) (s .found .root .0) 0 (s .left)
 
 -- the run goes on, its steps are within the budget, and the trace buffer has room for them all
 pub record Going (budget : ℕ) (c : Counts) (trace : List ℕ) : Type 0 where
@@ -98,31 +92,24 @@ pub record Going (budget : ℕ) (c : Counts) (trace : List ℕ) : Type 0 where
   pub few : budget ≤ 10000
   pub traced : 4 * budget ≤ length trace
 
--- a search may begin so: of the constraints before number from, no propagation rule applies but where the root is concerned
-pub record Begins (bs : List ℕ) (tab : Table) (b : Branch) (from root : ℕ) : Type 0 where
-  pub in-problem : from ≤ tab .constraints
-  pub low : root < 64
-  pub rooted : 0 < from → (root < tab .terms) × (rootOf (b .parents) root ≡ root)
-  pub calm : Calm false (tab .terms) (constraints bs tab) (held b) from root
+-- the run goes on, within its bounds; without terms there is one form at most
+pub record Begun (n budget : ℕ) (s : State) : Type 0 where
+  pub on : s .counts .stop ≡ 0
+  pub fine : Fine n budget s
+  pub no-terms : n ≡ 0 → s .counts .forms ≡ 0
 
--- a step at a position of its constraint: the constraint decoded, what the step asserts, and the root concerned
-pub record Chosen (bs : List ℕ) (b : Branch) (r : Inference) (position : ℕ) : Type 0 where
-  pub entries : List ℕ
-  pub decodes : code.Constraint
-  pub unpacked : Unpacked bs (r .constraint) entries decodes
-  pub acts : Acts (b .parents) (decoded (map term entries) decodes) (r .rule) position 0 (r .act)
-  pub concerns : r .root ≡ moveAt (held b) (decoded (map term entries) decodes) (r .rule) position .0 .index
-
--- the first propagation step of a branch; rule 0 says that none applies
-pub record Infers (bs : List ℕ) (tab : Table) (b : Branch) (r : Inference) : Type 0 where
-  pub position : ℕ
-  pub finds : Finds false (tab .terms) (constraints bs tab) (held b) (record { constraint = r .constraint; rule = r .rule; position = position })
-  pub chosen : ¬ (r .rule ≡ 0) → Chosen bs b r position
+-- propagation steps lead from a branch, its counts and its trace to others
+pub record Reached (bs : List ℕ) (tab : Table) (budget : ℕ) (b : Branch) (c : Counts) (trace : List ℕ) (at : Branch) (d : Counts) (after : List ℕ) : Type 0 where
+  pub leads : (forms : List ℕ) → Leads bs tab budget b (state c forms trace) at (state d forms after)
+  pub less : remaining bs tab at ≤ remaining bs tab b
+  pub sound : Sound (constants bs tab) at
+  pub going : Going budget d after
+  pub same : d .forms ≡ c .forms
 
 -- propagation steps were taken until none applies (settled), or until the branch closed or the budget was spent
 pub record Settles (bs : List ℕ) (tab : Table) (budget : ℕ) (b : Branch) (c : Counts) (trace : List ℕ) (r : Inferred) (after : List ℕ) : Type 0 where
-  pub leads : r .settled ≡ true → ((forms : List ℕ) → Leads bs tab budget b (state c forms trace) (r .branch) (state (r .counts) forms after)) × (remaining bs tab (r .branch) ≤ remaining bs tab b)
-  pub good : r .settled ≡ true → Good (tab .constants) (r .branch) × Going budget (r .counts) after × (r .counts .forms ≡ c .forms) × Settled bs tab (r .branch)
+  pub reached : r .settled ≡ true → Reached bs tab budget b c trace (r .branch) (r .counts) after
+  pub none-applies : r .settled ≡ true → Settled bs tab (r .branch)
   pub ended : r .settled ≡ false → (forms : List ℕ) → Outcome bs tab budget b (state c forms trace) (state (r .counts) forms after)
 
 -- a run of these bytes, if they are a problem, leaves what the calculus's run does

@@ -1,38 +1,38 @@
 // The run: a branch is worked until it splits, and each child is worked as a branch.
 use branch::Branch;
-use constraints::decode_at;
 use constraints::list_at;
 use output::Counts;
 use output::list_form;
 use output::note;
 use problem::Table;
 use problem::Totals;
-use search::Place;
+use search::Found;
+use search::listings;
 use search::search;
-use step::Act;
 use step::act_of;
-use step::concerned;
-use step::count;
+use step::child_at;
+use step::kept;
+use step::number;
 use step::perform;
 use step::slots;
-use step::target;
-ghost use mathlib.Core.Path.{_≡_};
-ghost use Prim.Native.Nat.{_+_, _*_, _≤_, max};
+ghost use Prim.Native.Nat.{_*_, _≤_};
 ghost use lib.ListN.{length};
-ghost use Rattle.calculus.specs.Lists.{upFrom};
-ghost use Rattle.calculus.specs.Run.{run};
-ghost use Rattle.problem.specs.Table.{Opened, Tabled, tableBy};
-ghost use Rattle.branch.specs.Held.{Good};
-ghost use Rattle.step.specs.Acts.{branchOf};
-ghost use Rattle.output.specs.State.{state, putAt, Fine};
-ghost use Rattle.solver.specs.Outcomes.{Outcome, SplitOutcome, Going, Begins, Infers, Settles, Splits, splitRecord, Runs};
+ghost use Rattle.problem.specs.Table.{Opened, tableBy};
+ghost use Rattle.branch.specs.Held.{Sound};
+ghost use Rattle.search.specs.First.{Prepared};
+ghost use Rattle.output.specs.State.{state};
+ghost use Rattle.solver.specs.Outcomes.{constants, Outcome, SplitOutcome, Going, Begun, Settles, Splits, Runs};
 
-// A propagation step: its rule and constraint, the root concerned and what it asserts. Rule 0: none applies.
-pub struct Inference {
-    pub rule: u8,
-    pub constraint: u8,
-    pub root: u8,
-    pub act: Act,
+// What bounds a run: the problem's totals, and how many steps it may take.
+pub struct Limits {
+    pub totals: Totals,
+    pub budget: usize,
+}
+
+// A branch to be worked, and what was counted before it.
+pub struct Task {
+    pub branch: Branch,
+    pub counts: Counts,
 }
 
 // A branch after propagation, with the counts. It is settled if no propagation rule applies; otherwise it is closed, or the budget is spent.
@@ -42,106 +42,45 @@ pub struct Inferred {
     pub settled: bool,
 }
 
-// The first propagation step of a branch. Of the constraints before number from, no rule of propagation applies but where the root is concerned.
-fn infer<'a>(
-    problem: &'a [u8],
-    numbers: &'a [u8],
-    totals: Totals,
-    offsets: &'a [u16],
-    witnesses: &'a [u8],
-    parents: &'a [u8],
-    insides: &'a [u8],
-    outsides: &'a [u8],
-    from: u8,
-    root: u8,
-) -> Inference
-    requires { ⌜ Tabled (now problem) totals (now offsets) (now witnesses) × (now numbers ≡ upFrom 0 64) × Good (totals .constants) (branchOf (now parents) (now insides) (now outsides)) × Begins (now problem) (tableBy totals (now offsets) (now witnesses)) (branchOf (now parents) (now insides) (now outsides)) from root ⌝ }
-    ensures { λ r. ⌜ Infers (now (problem .entry)) (tableBy totals (now (offsets .entry)) (now (witnesses .entry))) (branchOf (now (parents .entry)) (now (insides .entry)) (now (outsides .entry))) r ⌝ }
-{
-    let place = search(
-        problem,
-        numbers,
-        totals,
-        offsets,
-        witnesses,
-        parents,
-        insides,
-        outsides,
-        false,
-        from,
-        root,
-    );
-    let rule = place.rule;
-    let i = place.constraint;
-    let p = place.position;
-    if rule == 0 {
-        return Inference {
-            rule: rule,
-            constraint: i,
-            root: 0,
-            act: Act::Close,
-        };
-    }
-    let n = i as usize;
-    let at = offsets[n] as usize;
-    let l = decode_at(problem, n, at, witnesses[n]);
-    let entries = list_at(problem, numbers, n, at, l);
-    let h = concerned(parents, entries, rule, p);
-    let a = act_of(parents, entries, l, rule, p, 0);
-    Inference {
-        rule: rule,
-        constraint: i,
-        root: h,
-        act: a,
-    }
-}
-
-// The higher of two numbers.
-fn later(a: u8, b: u8) -> u8
-    ensures { λ r. ⌜ r ≡ max a b ⌝ }
-{
-    if a <= b {
-        return b;
-    }
-    a
+// A branch that splits where a search found it, the children that are left, as bits, and what was counted before them.
+pub struct Split {
+    pub branch: Branch,
+    pub found: Found,
+    pub left: u64,
+    pub counts: Counts,
 }
 
 // Takes propagation steps until none applies, or the branch is closed, or the budget spent.
 fn settle<'a>(
     problem: &'a [u8],
     numbers: &'a [u8],
-    totals: Totals,
+    limits: Limits,
     offsets: &'a [u16],
     witnesses: &'a [u8],
-    budget: usize,
-    b: Branch,
+    listed: &'a [u64],
+    task: Task,
     trace: &mut [u8],
-    c: Counts,
-    from: u8,
-    root: u8,
 ) -> Inferred
-    requires { ⌜ Tabled (now problem) totals (now offsets) (now witnesses) × (now numbers ≡ upFrom 0 64) × Good (totals .constants) b × Going budget c (now trace) × Begins (now problem) (tableBy totals (now offsets) (now witnesses)) b from root ⌝ }
-    ensures { λ r. ⌜ Settles (now (problem .entry)) (tableBy totals (now (offsets .entry)) (now (witnesses .entry))) budget b c (now (trace .entry)) r (now (trace .exit)) ⌝ }
+    requires { ⌜ Prepared (now problem) (now numbers) (limits .totals) (now offsets) (now witnesses) (now listed) × Sound (constants (now problem) (tableBy (limits .totals) (now offsets) (now witnesses))) (task .branch) × Going (limits .budget) (task .counts) (now trace) ⌝ }
+    ensures { λ r. ⌜ Settles (now (problem .entry)) (tableBy (limits .totals) (now (offsets .entry)) (now (witnesses .entry))) (limits .budget) (task .branch) (task .counts) (now (trace .entry)) r (now (trace .exit)) ⌝ }
 {
-    let constants = totals.constants;
-    let mut at = b;
-    let mut counts = c;
-    let mut first = from;
-    let mut changed = root;
+    let totals = limits.totals;
+    let budget = limits.budget;
+    let mut at = task.branch;
+    let mut counts = task.counts;
     loop {
-        let step = infer(
+        let found = search(
             problem,
             numbers,
             totals,
             offsets,
             witnesses,
+            listed,
             &at.parents,
-            &at.insides,
-            &at.outsides,
-            first,
-            changed,
+            &at.rows,
+            false,
         );
-        let rule = step.rule;
+        let rule = found.rule;
         if rule == 0 {
             return Inferred {
                 branch: at,
@@ -162,10 +101,10 @@ fn settle<'a>(
                 settled: false,
             };
         }
-        let i = step.constraint;
-        let h = step.root;
-        let a = step.act;
-        let next = perform(at, a, constants);
+        let root = found.root;
+        let l = found.constraint;
+        let act = act_of(&at.parents, l, rule, root, 0);
+        let next = perform(at, act);
         at = next.branch;
         counts = Counts {
             steps: steps + 1,
@@ -173,139 +112,106 @@ fn settle<'a>(
             stop: 0,
         };
         if next.conflict {
-            note(trace, steps, rule, i, h, 0);
+            note(trace, steps, rule, found.number, root.0, 0);
             return Inferred {
                 branch: at,
                 counts: counts,
                 settled: false,
             };
         }
-        note(trace, steps, rule, i, h, 1);
-        first = later(first, i);
-        changed = target(a);
+        note(trace, steps, rule, found.number, root.0, 1);
     }
-}
-
-// Notes a split in the trace.
-fn note_split<'a>(
-    problem: &'a [u8],
-    numbers: &'a [u8],
-    totals: Totals,
-    offsets: &'a [u16],
-    witnesses: &'a [u8],
-    parents: &'a [u8],
-    insides: &'a [u8],
-    outsides: &'a [u8],
-    place: Place,
-    steps: usize,
-    trace: &mut [u8],
-)
-    requires { ⌜ Tabled (now problem) totals (now offsets) (now witnesses) × (now numbers ≡ upFrom 0 64) × Good (totals .constants) (branchOf (now parents) (now insides) (now outsides)) × Splits (now problem) (tableBy totals (now offsets) (now witnesses)) (branchOf (now parents) (now insides) (now outsides)) place × (4 * steps + 4 ≤ length (now trace)) ⌝ }
-    ensures { λ _. ⌜ now (trace .exit) ≡ putAt (now (trace .entry)) (4 * steps) (splitRecord (now (problem .entry)) (tableBy totals (now (offsets .entry)) (now (witnesses .entry))) (branchOf (now (parents .entry)) (now (insides .entry)) (now (outsides .entry))) place) ⌝ }
-{
-    let i = place.constraint;
-    let rule = place.rule;
-    let p = place.position;
-    let constants = totals.constants;
-    let n = i as usize;
-    let at = offsets[n] as usize;
-    let l = decode_at(problem, n, at, witnesses[n]);
-    let entries = list_at(problem, numbers, n, at, l);
-    let h = concerned(parents, entries, rule, p);
-    let kids = count(parents, insides, outsides, entries, l, constants, rule, p);
-    note(trace, steps, rule, i, h, kids);
 }
 
 // Works a branch: propagation first; then it is a solved form, or it splits.
 fn work<'a>(
     problem: &'a [u8],
     numbers: &'a [u8],
-    totals: Totals,
+    limits: Limits,
     offsets: &'a [u16],
     witnesses: &'a [u8],
-    budget: usize,
-    b: Branch,
+    listed: &'a [u64],
+    task: Task,
     forms: &mut [u8],
     trace: &mut [u8],
-    c: Counts,
-    from: u8,
-    root: u8,
 ) -> Counts
-    requires { ⌜ Tabled (now problem) totals (now offsets) (now witnesses) × (now numbers ≡ upFrom 0 64) × Good (totals .constants) b × (c .stop ≡ 0) × Fine (totals .terms) budget (state c (now forms) (now trace)) × (totals .terms ≡ 0 → c .forms ≡ 0) × Begins (now problem) (tableBy totals (now offsets) (now witnesses)) b from root ⌝ }
-    ensures { λ r. ⌜ Outcome (now (problem .entry)) (tableBy totals (now (offsets .entry)) (now (witnesses .entry))) budget b (state c (now (forms .entry)) (now (trace .entry))) (state r (now (forms .exit)) (now (trace .exit))) ⌝ }
+    requires { ⌜ Prepared (now problem) (now numbers) (limits .totals) (now offsets) (now witnesses) (now listed) × Sound (constants (now problem) (tableBy (limits .totals) (now offsets) (now witnesses))) (task .branch) × Begun (limits .totals .terms) (limits .budget) (state (task .counts) (now forms) (now trace)) ⌝ }
+    ensures { λ r. ⌜ Outcome (now (problem .entry)) (tableBy (limits .totals) (now (offsets .entry)) (now (witnesses .entry))) (limits .budget) (task .branch) (state (task .counts) (now (forms .entry)) (now (trace .entry))) (state r (now (forms .exit)) (now (trace .exit))) ⌝ }
 {
     let inferred = settle(
         problem,
         numbers,
-        totals,
+        limits,
         offsets,
         witnesses,
-        budget,
-        b,
+        listed,
+        task,
         trace,
-        c,
-        from,
-        root,
     );
     let counts = inferred.counts;
     if !inferred.settled {
         return counts;
     }
     let at = inferred.branch;
-    let place = search(
+    let totals = limits.totals;
+    let found = search(
         problem,
         numbers,
         totals,
         offsets,
         witnesses,
+        listed,
         &at.parents,
-        &at.insides,
-        &at.outsides,
+        &at.rows,
         true,
-        0,
-        0,
     );
-    if place.rule == 0 {
+    let rule = found.rule;
+    if rule == 0 {
         return list_form(at, totals.terms, counts, forms);
     }
     let taken = counts.steps;
-    let listed = counts.forms;
-    if taken == budget {
+    if taken == limits.budget {
         return Counts {
             steps: taken,
-            forms: listed,
+            forms: counts.forms,
             stop: 1,
         };
     }
-    note_split(
-        problem,
-        numbers,
-        totals,
-        offsets,
-        witnesses,
+    let n = found.number as usize;
+    let l = found.constraint;
+    let root = found.root.0;
+    let entries = list_at(problem, numbers, n, offsets[n] as usize, l);
+    let left = kept(
         &at.parents,
         &at.insides,
         &at.outsides,
-        place,
-        taken,
-        trace,
+        &at.rows,
+        at.fixed,
+        entries,
+        l,
+        rule,
+        root,
     );
+    note(trace, taken, rule, found.number, root, number(left));
     children(
         problem,
         numbers,
-        totals,
+        limits,
         offsets,
         witnesses,
-        budget,
-        at,
-        place,
+        listed,
+        Split {
+            branch: at,
+            found: found,
+            left: left,
+            counts: Counts {
+                steps: taken + 1,
+                forms: counts.forms,
+                stop: 0,
+            },
+        },
         forms,
         trace,
-        Counts {
-            steps: taken + 1,
-            forms: listed,
-            stop: 0,
-        },
     )
 }
 
@@ -313,55 +219,54 @@ fn work<'a>(
 fn children<'a>(
     problem: &'a [u8],
     numbers: &'a [u8],
-    totals: Totals,
+    limits: Limits,
     offsets: &'a [u16],
     witnesses: &'a [u8],
-    budget: usize,
-    b: Branch,
-    place: Place,
+    listed: &'a [u64],
+    split: Split,
     forms: &mut [u8],
     trace: &mut [u8],
-    c: Counts,
 ) -> Counts
-    requires { ⌜ Tabled (now problem) totals (now offsets) (now witnesses) × (now numbers ≡ upFrom 0 64) × Good (totals .constants) b × Splits (now problem) (tableBy totals (now offsets) (now witnesses)) b place × (c .stop ≡ 0) × Fine (totals .terms) budget (state c (now forms) (now trace)) ⌝ }
-    ensures { λ r. ⌜ SplitOutcome (now (problem .entry)) (tableBy totals (now (offsets .entry)) (now (witnesses .entry))) budget b place (state c (now (forms .entry)) (now (trace .entry))) (state r (now (forms .exit)) (now (trace .exit))) ⌝ }
+    requires { ⌜ Prepared (now problem) (now numbers) (limits .totals) (now offsets) (now witnesses) (now listed) × Splits (now problem) (tableBy (limits .totals) (now offsets) (now witnesses)) split × Begun (limits .totals .terms) (limits .budget) (state (split .counts) (now forms) (now trace)) ⌝ }
+    ensures { λ r. ⌜ SplitOutcome (now (problem .entry)) (tableBy (limits .totals) (now (offsets .entry)) (now (witnesses .entry))) (limits .budget) (split .branch) (split .found) (state (split .counts) (now (forms .entry)) (now (trace .entry))) (state r (now (forms .exit)) (now (trace .exit))) ⌝ }
 {
-    let i = place.constraint;
-    let rule = place.rule;
-    let p = place.position;
-    let constants = totals.constants;
-    let last = totals.constraints;
-    let m = i as usize;
-    let at = offsets[m] as usize;
-    let l = decode_at(problem, m, at, witnesses[m]);
-    let entries = list_at(problem, numbers, m, at, l);
-    let n = slots(entries, l, rule);
-    let mut d = c;
-    for k in 0..n {
-        let a = act_of(&b.parents, entries, l, rule, p, k);
-        let next = perform(b, a, constants);
-        if !next.conflict {
+    let b = split.branch;
+    let found = split.found;
+    let rule = found.rule;
+    let l = found.constraint;
+    let h = found.root;
+    let n = found.number as usize;
+    let entries = list_at(problem, numbers, n, offsets[n] as usize, l);
+    let count = slots(entries, l, rule);
+    let mut left = split.left;
+    let mut counts = split.counts;
+    for k in 0..count {
+        let turn = child_at(&b.parents, entries, l, rule, h.0, k, left);
+        left = turn.left;
+        if turn.taken {
+            let act = turn.act;
+            let next = perform(b, act);
             let then = next.branch;
-            d = work(
+            counts = work(
                 problem,
                 numbers,
-                totals,
+                limits,
                 offsets,
                 witnesses,
-                budget,
-                then,
+                listed,
+                Task {
+                    branch: then,
+                    counts: counts,
+                },
                 forms,
                 trace,
-                d,
-                last,
-                target(a),
             );
-            if d.stop != 0 {
-                return d;
+            if counts.stop != 0 {
+                return counts;
             }
         }
     }
-    d
+    counts
 }
 
 // Runs an accepted problem from its start.
@@ -375,7 +280,7 @@ pub fn solve(
     requires { ⌜ Opened (now problem) tab × (budget ≤ 10000) × (4 * budget ≤ length (now trace)) ⌝ }
     ensures { λ r. ⌜ Runs (now (problem .entry)) budget (now (forms .entry)) (now (trace .entry)) (state r (now (forms .exit)) (now (trace .exit))) ⌝ }
 {
-    let b = Branch::start();
+    let b = Branch::start(tab.constants);
     let numbers = b.parents;
     let offsets = tab.offsets;
     let witnesses = tab.witnesses;
@@ -387,22 +292,26 @@ pub fn solve(
         constraints: tab.constraints,
         terms: tab.terms,
     };
+    let listed = listings(problem, &numbers, totals, &offsets, &witnesses);
     work(
         problem,
         &numbers,
-        totals,
+        Limits {
+            totals: totals,
+            budget: budget,
+        },
         &offsets,
         &witnesses,
-        budget,
-        b,
+        &listed,
+        Task {
+            branch: b,
+            counts: Counts {
+                steps: 0,
+                forms: 0,
+                stop: 0,
+            },
+        },
         forms,
         trace,
-        Counts {
-            steps: 0,
-            forms: 0,
-            stop: 0,
-        },
-        0,
-        0,
     )
 }

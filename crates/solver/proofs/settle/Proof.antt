@@ -1,106 +1,115 @@
-use mathlib.Core.Path.{_≡_, refl}
+-- `settle` meets its contract. The loop keeps that the steps taken so far reach the branch as it is. It ends: every step leaves less of it. It returns where the search finds nothing, the budget is spent, or a step closes the branch.
+use mathlib.Core.Path.{_≡_, refl, _∙_}
+use mathlib.Core.Bool.{false≢true}
 use native.Mathlib.Omega.{arith}
 use lib.ListN.{length}
 use borrow.Author.Needs.{needs}
 use Rattle.problem.specs.Table.{tableBy}
-use Rattle.solver.specs.Outcomes.{remaining, Begins}
-use Rattle.solver.proofs.Inferring.{first-slot}
-use Rattle.solver.proofs.Changing.{answers, next-begins}
-use Rattle.solver.proofs.Settling.{Since, since-begin, since-again, since-settled, since-ended, none-applies, step-spent, step-closes, step-goes, step-falls}
+use Rattle.solver.specs.Outcomes.{remaining, Reached}
+use Rattle.solver.proofs.Opening.{lent, shows}
+use Rattle.solver.proofs.Taking.{taking, none-found, is-placed, first-there, somewhere, not-20, inferred, child-less}
+use Rattle.solver.proofs.Settling.{reached-start, reached-again, settles, ends, step-spent, step-closes, step-goes}
 use Rattle.solver.proofs.settle.Statement.{statement}
 use Rattle.solver.proofs.settle.Tie as tie
-use Rattle.solver.proofs.settle.Reads as reads
-use Rattle.solver.proofs.settle.Lts as lts
-use Rattle.output.proofs.note.Reads as note-reads
-use Rattle.solver.proofs.infer.Reads as infer-reads
-use Rattle.solver.proofs.later.Reads as later-reads
-use Rattle.step.proofs.perform.Reads as perform-reads
-use Rattle.step.proofs.target.Reads as target-reads
 
 abbrev Inv-loop : tie.InvT-loop
-Inv-loop problem numbers totals offsets witnesses budget trace₀ from root constants at₀ counts₀ first₀ changed₀ trace at counts first changed =
-    Since problem (tableBy totals offsets witnesses) budget at₀ counts₀ trace₀ at counts trace × (length trace ≡ length trace₀) × Begins problem (tableBy totals offsets witnesses) at first changed
+Inv-loop problem numbers offsets witnesses listed trace₀ totals budget at₀ counts₀ trace at counts =
+    Reached problem (tableBy totals offsets witnesses) budget at₀ counts₀ trace₀ at counts trace × (length trace ≡ length trace₀)
 
 abbrev μ-loop : tie.MeasureT-loop
-μ-loop problem numbers totals offsets witnesses budget trace₀ from root constants at₀ counts₀ first₀ changed₀ trace at counts first changed =
+μ-loop problem numbers offsets witnesses listed trace₀ totals budget at₀ counts₀ trace at counts =
     remaining problem (tableBy totals offsets witnesses) at
 
-loop-holds : tie.Need-loop-holds Inv-loop μ-loop
-loop-holds c = let p = c .before .before .before .before .before .pre in (since-begin _ _ _ _ _ _ (p .2) (p .3), refl, p .4)
+-- the places: the start and the loop's turn before a search, the search before an act, the act before its record
+abbrev start : tie.After-search Inv-loop μ-loop → tie.Start Inv-loop μ-loop
+start c = c .before .before .before .before .before .before .before .before .before .before .before .before .before .before .before .before
 
-infer-requires : tie.Need-infer-requires Inv-loop μ-loop
-infer-requires c κs = let p = c .before .before .before .before .before .before .before .before .before .before .before .before .before .pre in let v = c .before .before .before .before .before .before .before .loop .inv in (p .0, p .1, v .0 .good, v .2)
+abbrev turn : tie.After-search Inv-loop μ-loop → tie.At-loop Inv-loop μ-loop
+turn c = c .before .before .before .before .before .before
+
+abbrev searched : tie.After-perform Inv-loop μ-loop → tie.After-search Inv-loop μ-loop
+searched c = c .before .before .before .before .before .before .before .before
+
+loop-holds : tie.Need-loop-holds Inv-loop μ-loop
+loop-holds c = let p = c .before .before .before .before .before .before .before .before .before .pre in (reached-start (p .1) (p .2), refl)
+
+search-requires : tie.Need-search-requires Inv-loop μ-loop
+search-requires c κs = (c .before .before .before .before .before .before .before .before .before .before .before .before .before .before .before .pre .0, lent (c .before .before .before .before .before .loop .inv .0 .sound))
 
 same-length : tie.Need-same-length Inv-loop μ-loop
 same-length c = search needs
 
 returns : tie.Need-returns Inv-loop μ-loop
 returns c =
-    let p = c .before .before .before .before .before .before .before .before .before .before .before .before .before .before .before .pre in
-    let v = c .before .before .before .before .before .before .before .before .before .loop .inv in
-    since-settled _ _ _ _ _ _ _ _ _ (v .0) (none-applies _ _ (p .0 .opened) _ _ (v .0 .good) _ _ (v .0 .going) _ (c .before .infer .ensures .finds) (c .if1 .taken))
+    let s = c .before in
+    let v = turn s .loop .inv .0 in
+    settles v (none-found (start s .pre .0 .tabled .opened) (v .sound) (s .search .ensures _ (shows (v .sound))) (c .if1 .taken))
 
 same-length-2 : tie.Need-same-length-2 Inv-loop μ-loop
 same-length-2 c = search needs
 
 returns-2 : tie.Need-returns-2 Inv-loop μ-loop
 returns-2 c =
-    let p = c .before .before .before .before .before .before .before .before .before .before .before .before .before .before .before .before .pre in
-    let v = c .before .before .before .before .before .before .before .before .before .before .loop .inv in
-    since-ended _ _ _ _ _ _ _ _ _ (v .0) _ refl _ (step-spent _ _ (p .0 .opened) _ _ (v .0 .good) _ _ (v .0 .going) _ (c .before .before .infer .ensures .finds) (c .before .if1 .left) (c .if2 .taken))
+    let s = c .before .before in
+    let v = turn s .loop .inv .0 in
+    let k = taking (start s .pre .0 .tabled .opened) (v .sound) (s .search .ensures _ (shows (v .sound))) (λ e. absurd (false≢true e)) (c .before .if1 .left) in
+    ends v _ refl _ (step-spent k _ _ (v .going) (c .if2 .taken))
+
+act-of-requires : tie.Need-act-of-requires Inv-loop μ-loop
+act-of-requires c κs =
+    let s = c .before .before .before .before .before .before in
+    let v = turn s .loop .inv .0 in
+    let k = taking (start s .pre .0 .tabled .opened) (v .sound) (s .search .ensures _ (shows (v .sound))) (λ e. absurd (false≢true e)) (c .before .before .before .before .before .if1 .left) in
+    (v .sound .good .sized, v .sound .good .falls, somewhere k, not-20 k)
 
 perform-requires : tie.Need-perform-requires Inv-loop μ-loop
-perform-requires c κs = c .before .before .infer .ensures .chosen (c .before .if1 .left) .acts .rooted
+perform-requires c κs =
+    let s = c .before .before .before .before .before .before .before in
+    let v = turn s .loop .inv .0 in
+    let k = taking (start s .pre .0 .tabled .opened) (v .sound) (s .search .ensures _ (shows (v .sound))) (λ e. absurd (false≢true e)) (c .before .before .before .before .before .before .if1 .left) in
+    c .act-of .ensures _ _ (is-placed k) (first-there k) .rooted
 
-add-t36 : tie.Need-add-t36 Inv-loop μ-loop
-add-t36 c = let g = c .before .before .before .before .before .before .before .before .before .before .before .before .loop .inv .0 .going in omega (arith, g .within, g .few)
+add-t32 : tie.Need-add-t32 Inv-loop μ-loop
+add-t32 c = let g = turn (searched (c .before)) .loop .inv .0 .going in omega (arith, g .within, g .few)
 
 note-requires : tie.Need-note-requires Inv-loop μ-loop
-note-requires c κs = let g = c .before .before .before .before .before .before .before .before .before .before .before .before .before .before .loop .inv .0 .going in omega (arith, g .within, g .traced, c .before .before .before .before .if2 .left)
+note-requires c κs = let p = c .before .before .before in let g = turn (searched p) .loop .inv .0 .going in omega (arith, g .within, g .traced, p .before .before .before .before .before .before .if2 .left)
 
 same-length-3 : tie.Need-same-length-3 Inv-loop μ-loop
-same-length-3 c = search needs
+same-length-3 c = c .before .trace .given ∙ turn (searched (c .before .before .before .before .before .before)) .loop .inv .1
 
 returns-3 : tie.Need-returns-3 Inv-loop μ-loop
 returns-3 c =
-    let p = c .before .before .before .before .before .before .before .before .before .before .before .before .before .before .before .before .before .before .before .before .before .before .before .pre in
-    let v = c .before .before .before .before .before .before .before .before .before .before .before .before .before .before .before .before .before .loop .inv in
-    let f = c .before .before .before .before .before .before .before .before .before .infer .ensures in
-    let n = c .before .before .before .before .before .before .before .before .if1 .left in
-    let h = f .chosen n in
-    let lt = first-slot _ _ (p .0 .opened) _ (v .0 .good) _ (f .finds .within n) _ _ (h .unpacked) n (f .finds .first-is) _ refl in
-    since-ended _ _ _ _ _ _ _ _ _ (v .0) _ refl _
-    (step-closes _ _ (p .0 .opened) _ _ (v .0 .good) _ _ (v .0 .going) _ (f .finds) n _ _ (h .unpacked) _ (h .concerns) _ (answers _ _ (p .0 .opened) _ (v .0 .good) _ _ (f .finds) n _ _ (h .unpacked) _ lt _ (h .acts) _ (c .before .before .before .before .before .before .perform .ensures)) (omega (arith, v .0 .going .within, c .before .before .before .before .before .before .before .if2 .left)) (c .before .before .before .before .if3 .taken) _ (c .before .before .note .ensures))
+    let p = c .before .before .before .before .before .before in
+    let s = searched p in
+    let v = turn s .loop .inv .0 in
+    let n = p .before .before .before .before .before .before .before .if1 .left in
+    let k = taking (start s .pre .0 .tabled .opened) (v .sound) (s .search .ensures _ (shows (v .sound))) (λ e. absurd (false≢true e)) n in
+    let m = inferred k (p .before .act-of .ensures _ _ (is-placed k) (first-there k)) (p .perform .ensures) in
+    ends v _ refl _ (step-closes k _ _ (v .going) m (omega (arith, v .going .within, p .before .before .before .before .before .before .if2 .left)) (c .before .before .before .before .if3 .taken) _ (c .before .before .note .ensures))
 
 note-requires-2 : tie.Need-note-requires-2 Inv-loop μ-loop
-note-requires-2 c κs = let g = c .before .before .before .before .before .before .before .before .before .before .before .before .before .before .loop .inv .0 .going in omega (arith, g .within, g .traced, c .before .before .before .before .if2 .left)
-
-later-requires : tie.Need-later-requires Inv-loop μ-loop
-later-requires c κs = search needs
-
-target-requires : tie.Need-target-requires Inv-loop μ-loop
-target-requires c κs = search needs
+note-requires-2 c κs = let p = c .before .before .before in let g = turn (searched p) .loop .inv .0 .going in omega (arith, g .within, g .traced, p .before .before .before .before .before .before .if2 .left)
 
 loop-less : tie.Need-loop-less Inv-loop μ-loop
 loop-less c =
-    let p = c .before .before .before .before .before .before .before .before .before .before .before .before .before .before .before .before .before .before .before .before .before .before .before .before .before .pre in
-    let v = c .before .before .before .before .before .before .before .before .before .before .before .before .before .before .before .before .before .before .before .loop .inv in
-    let f = c .before .before .before .before .before .before .before .before .before .before .before .infer .ensures in
-    let n = c .before .before .before .before .before .before .before .before .before .before .if1 .left in
-    let h = f .chosen n in
-    let lt = first-slot _ _ (p .0 .opened) _ (v .0 .good) _ (f .finds .within n) _ _ (h .unpacked) n (f .finds .first-is) _ refl in
-    step-falls _ _ (p .0 .opened) _ _ (v .0 .good) _ _ (v .0 .going) _ (f .finds) n _ _ (h .unpacked) _ (h .concerns) _ (answers _ _ (p .0 .opened) _ (v .0 .good) _ _ (f .finds) n _ _ (h .unpacked) _ lt _ (h .acts) _ (c .before .before .before .before .before .before .before .before .perform .ensures)) (omega (arith, v .0 .going .within, c .before .before .before .before .before .before .before .before .before .if2 .left)) (c .before .before .before .before .before .before .if3 .left) _ (c .before .before .before .before .note2 .ensures)
+    let p = c .before .before .before .before .before .before in
+    let s = searched p in
+    let v = turn s .loop .inv .0 in
+    let n = p .before .before .before .before .before .before .before .if1 .left in
+    let k = taking (start s .pre .0 .tabled .opened) (v .sound) (s .search .ensures _ (shows (v .sound))) (λ e. absurd (false≢true e)) n in
+    let m = inferred k (p .before .act-of .ensures _ _ (is-placed k) (first-there k)) (p .perform .ensures) in
+    child-less k m (c .before .before .before .before .if3 .left)
 
 loop-again : tie.Need-loop-again Inv-loop μ-loop
 loop-again c =
-    let p = c .before .before .before .before .before .before .before .before .before .before .before .before .before .before .before .before .before .before .before .before .before .before .before .before .before .pre in
-    let v = c .before .before .before .before .before .before .before .before .before .before .before .before .before .before .before .before .before .before .before .loop .inv in
-    let f = c .before .before .before .before .before .before .before .before .before .before .before .infer .ensures in
-    let n = c .before .before .before .before .before .before .before .before .before .before .if1 .left in
-    let h = f .chosen n in
-    let lt = first-slot _ _ (p .0 .opened) _ (v .0 .good) _ (f .finds .within n) _ _ (h .unpacked) n (f .finds .first-is) _ refl in
-    let a = step-goes _ _ (p .0 .opened) _ _ (v .0 .good) _ _ (v .0 .going) _ (f .finds) n _ _ (h .unpacked) _ (h .concerns) _ (answers _ _ (p .0 .opened) _ (v .0 .good) _ _ (f .finds) n _ _ (h .unpacked) _ lt _ (h .acts) _ (c .before .before .before .before .before .before .before .before .perform .ensures)) (omega (arith, v .0 .going .within, c .before .before .before .before .before .before .before .before .before .if2 .left)) (c .before .before .before .before .before .before .if3 .left) _ (c .before .before .before .before .note2 .ensures) in
-    (since-again _ _ _ _ _ _ _ _ _ (v .0) _ _ _ a, search needs, next-begins _ _ (p .0 .opened) _ (v .0 .good) _ _ (f .finds) n _ _ (h .unpacked) _ lt _ (h .acts) _ (c .before .before .before .before .before .before .before .before .perform .ensures) (c .before .before .before .before .before .before .if3 .left) _ (c .target .ensures) refl _ _ _ (c .before .later .ensures) (v .2))
+    let p = c .before .before .before .before .before .before in
+    let s = searched p in
+    let v = turn s .loop .inv .0 in
+    let n = p .before .before .before .before .before .before .before .if1 .left in
+    let k = taking (start s .pre .0 .tabled .opened) (v .sound) (s .search .ensures _ (shows (v .sound))) (λ e. absurd (false≢true e)) n in
+    let m = inferred k (p .before .act-of .ensures _ _ (is-placed k) (first-there k)) (p .perform .ensures) in
+    (reached-again v (step-goes k _ _ (v .going) m (omega (arith, v .going .within, p .before .before .before .before .before .before .if2 .left)) (c .before .before .before .before .if3 .left) _ (c .before .before .note2 .ensures)), c .before .trace2 .given ∙ turn s .loop .inv .1)
 
 pub settle-spec : {M : Type 1} → statement M
 settle-spec =
@@ -109,18 +118,17 @@ settle-spec =
     Inv-loop
     μ-loop
     loop-holds
-    infer-requires
+    search-requires
     same-length
     returns
     same-length-2
     returns-2
+    act-of-requires
     perform-requires
-    add-t36
+    add-t32
     note-requires
     same-length-3
     returns-3
     note-requires-2
-    later-requires
-    target-requires
     loop-less
     loop-again)

@@ -1,16 +1,32 @@
-use mathlib.Core.Path.{refl}
+-- `solve` meets its contract: the start is sound, its lists are prepared, and working it is the calculus's run.
+use mathlib.Core.Path.{refl, sym}
+use native.Mathlib.Omega.{arith}
 use borrow.Author.Needs.{needs}
-use Rattle.branch.proofs.Laws.{start-good, start-numbers}
-use Rattle.solver.proofs.Running.{begun-fine, begins-first, runs}
+use Rattle.branch.proofs.Laws.{start-held, start-numbers}
+use Rattle.branch.proofs.Rowing.{start-sound}
+use Rattle.solver.proofs.Opening.{constants-few, terms-few}
+use Rattle.solver.proofs.Running.{begun-fine, runs}
 use Rattle.solver.proofs.solve.Statement.{statement}
 use Rattle.solver.proofs.solve.Tie as tie
-use Rattle.solver.proofs.solve.Reads as reads
-use Rattle.solver.proofs.solve.Lts as lts
-use Rattle.branch.proofs.Branch.start.Reads as start-reads
-use Rattle.solver.proofs.work.Reads as work-reads
+
+-- the start, before the branch was made
+abbrev entry : tie.After-start → tie.Start
+entry c = c .before .before .before .before
 
 start-requires : tie.Need-start-requires
-start-requires c κs = search needs
+start-requires c κs = let o = c .before .before .before .pre .0 in omega (arith, constants-few _ _ o, terms-few _ _ o)
+
+slice-aggregate-listings : tie.Need-slice-aggregate-listings
+slice-aggregate-listings c = search needs
+
+slice-aggregate-listings-2 : tie.Need-slice-aggregate-listings-2
+slice-aggregate-listings-2 c = search needs
+
+slice-aggregate-listings-3 : tie.Need-slice-aggregate-listings-3
+slice-aggregate-listings-3 c = search needs
+
+listings-requires : tie.Need-listings-requires
+listings-requires c κs = let b = c .before .before .before .before .before .before in (record { opened = entry b .pre .0; sized = sym (slice-aggregate-listings-2 (c .before)); sized-witnesses = sym (slice-aggregate-listings-3 c) }, start-numbers _ _ (b .start .ensures))
 
 slice-aggregate-work : tie.Need-slice-aggregate-work
 slice-aggregate-work c = search needs
@@ -19,13 +35,19 @@ slice-aggregate-work-2 : tie.Need-slice-aggregate-work-2
 slice-aggregate-work-2 c = search needs
 
 slice-aggregate-work-3 : tie.Need-slice-aggregate-work-3
-slice-aggregate-work-3 c = search needs
+slice-aggregate-work-3 c = slice-aggregate-listings-3 (c .before .before .before .before)
+
+slice-aggregate-work-4 : tie.Need-slice-aggregate-work-4
+slice-aggregate-work-4 c = sym (c .before .before .before .before .listings .ensures .long)
 
 work-requires : tie.Need-work-requires
 work-requires c κs =
-    let q = c .before .before .before .before .before .before .before .before .before .before .before .before .pre in
-    let e = c .before .before .before .before .before .before .before .before .start .ensures in
-    (record { opened = q .0; sized = search needs; sized-witnesses = search needs }, start-numbers _ e, start-good _ (c .before .before .before .before .before .before .before .before .before .before .before .before .args .tab .constants) e, refl, begun-fine _ _ _ _ (q .1) (q .2), (λ z. refl), begins-first _ _ _)
+    let b = c .before .before .before .before .before .before .before .before .before .before .before .before .before in
+    let p = entry b .pre in (
+      record { tabled = record { opened = p .0; sized = sym (slice-aggregate-listings-2 (c .before .before .before .before .before .before .before .before)); sized-witnesses = sym (slice-aggregate-listings-3 (c .before .before .before .before .before .before .before)) }; numbers-are = start-numbers _ _ (b .start .ensures); listed-are = c .before .before .before .before .before .before .listings .ensures },
+      start-sound _ _ (b .start .ensures),
+      record { on = refl; fine = begun-fine _ _ _ _ (p .1) (p .2); no-terms = λ _. refl },
+    )
 
 same-length : tie.Need-same-length
 same-length c = search needs
@@ -35,17 +57,23 @@ same-length-2 c = search needs
 
 returns : tie.Need-returns
 returns c =
-    let q = c .before .before .before .before .before .before .before .before .before .before .before .before .before .before .before .before .before .pre in
-    runs _ _ (q .0) _ _ (c .before .before .before .before .before .before .before .before .before .before .before .before .before .start .ensures) _ _ _ (q .2) (c .before .before .before .before .work .ensures)
+    let b = c .before .before .before .before .before .before .before .before .before .before .before .before .before .before .before .before .before .before in
+    let p = entry b .pre in
+    runs _ _ (p .0) _ _ (start-held _ _ (b .start .ensures)) _ _ _ (p .2) (c .before .before .before .before .work .ensures)
 
 pub solve-spec : {M : Type 1} → statement M
 solve-spec =
     tie.close
     (tie.spec
     start-requires
+    slice-aggregate-listings
+    slice-aggregate-listings-2
+    slice-aggregate-listings-3
+    listings-requires
     slice-aggregate-work
     slice-aggregate-work-2
     slice-aggregate-work-3
+    slice-aggregate-work-4
     work-requires
     same-length
     same-length-2
