@@ -26,7 +26,7 @@ use Rattle.terms.specs.declared.SetVar as sets
 use Rattle.questions.proofs.Constants.{AllBytes}
 use Rattle.problem.specs.declared.Table.{Table}
 use Rattle.problem.specs.Table.{problemTable, Opened, Stands, constraintsOf, noConstraint, constraintOf, kindOf, listed, witnessOf}
-use Rattle.problem.proofs.Access.{Read, opened, Placed, placed, place-of, kind-read, list-count, witness-read, witness-is}
+use Rattle.problem.proofs.Access.{Read, opened, Placed, placed, place-of, kind-read, list-count, witness-read, witness-is, opened-sizes}
 use Rattle.constraints.specs.declared.Constraint.{Constraint}
 use Rattle.constraints.specs.declared.Constraint.the-variants.{Member, Nonmember, Same, Different, Related, Negated, Exactly, Interval}
 use Rattle.places.specs.Places.{entriesOf}
@@ -105,16 +105,26 @@ of-problem bs tab i l r P e =
     let c : getD ls i noConstraint ≡ constraintOf bs i = rw (r .reads) in
     subst P c (each-at P ls noConstraint e i (omega arith))
 
--- the ranges that the code handles hold those of any problem
-wider : (n m : ℕ) → n ≤ 64 → m ≤ 8 → (x : calculus.Constraint) → ConstraintIn n m x → ConstraintIn 64 8 x
-wider n m u v (calculus.member t A) a = (omega (arith, a .0), omega (arith, a .1))
-wider n m u v (calculus.nonmember t A) a = (omega (arith, a .0), omega (arith, a .1))
-wider n m u v (calculus.same t s) a = (omega (arith, a .0), omega (arith, a .1))
-wider n m u v (calculus.different t s) a = (omega (arith, a .0), omega (arith, a .1))
-wider n m u v (calculus.relation k A B C) a = (omega (arith, a .0), omega (arith, a .1), omega (arith, a .2))
-wider n m u v (calculus.negation k A B C w) a = ((omega (arith, a .0 .0), omega (arith, a .0 .1), omega (arith, a .0 .2)), omega (arith, a .1))
-wider n m u v (calculus.exactly A es) a = (omega (arith, a .0), Each-imp (λ e. e .index < n) (λ e. e .index < 64) es (λ e l. omega arith) (a .1))
-wider n m u v (calculus.interval A i j) a = (omega (arith, a .0), Each-imp (λ e. e .index < n) (λ e. e .index < 64) (calculus.entries i j) (λ e l. omega arith) (a .1))
+-- a constraint in some ranges is in wider ones
+wider : (n m N M : ℕ) → n ≤ N → m ≤ M → (x : calculus.Constraint) → ConstraintIn n m x → ConstraintIn N M x
+wider n m N M u v (calculus.member t A) a = (omega (arith, a .0), omega (arith, a .1))
+wider n m N M u v (calculus.nonmember t A) a = (omega (arith, a .0), omega (arith, a .1))
+wider n m N M u v (calculus.same t s) a = (omega (arith, a .0), omega (arith, a .1))
+wider n m N M u v (calculus.different t s) a = (omega (arith, a .0), omega (arith, a .1))
+wider n m N M u v (calculus.relation k A B C) a = (omega (arith, a .0), omega (arith, a .1), omega (arith, a .2))
+wider n m N M u v (calculus.negation k A B C w) a = ((omega (arith, a .0 .0), omega (arith, a .0 .1), omega (arith, a .0 .2)), omega (arith, a .1))
+wider n m N M u v (calculus.exactly A es) a = (omega (arith, a .0), Each-imp (λ e. e .index < n) (λ e. e .index < N) es (λ e l. omega arith) (a .1))
+wider n m N M u v (calculus.interval A i j) a = (omega (arith, a .0), Each-imp (λ e. e .index < n) (λ e. e .index < N) (calculus.entries i j) (λ e l. omega arith) (a .1))
+
+-- constraint i is in all ranges that hold the problem's terms and sets
+pub constraint-in : (bs : List ℕ) (tab : Table) (i : ℕ) → Opened bs tab → i < tab .constraints → (N M : ℕ) → tab .terms ≤ N → tab .sets ≤ M → ConstraintIn N M (constraintOf bs i)
+unfolding problemTable
+constraint-in bs tab i o l N M u v =
+    let r = opened bs tab o in
+    let n : tab .terms ≡ termCount (r .prob) = ap (λ (t : Table). t .terms) (r .shows) in
+    let m : tab .sets ≡ setCount (r .prob) = ap (λ (t : Table). t .sets) (r .shows) in
+    wider (termCount (r .prob)) (setCount (r .prob)) N M (omega arith) (omega arith) (constraintOf bs i)
+    (of-problem bs tab i l r (ConstraintIn (termCount (r .prob)) (setCount (r .prob))) (constraints-in (r .prob) (read-valid bs (r .prob) (r .reads))))
 
 -- a part of the numbers from s upward
 up-part : (n a k s t : ℕ) → t ≡ s + a → a + n ≤ k → take n (drop a (upFrom s k)) ≡ upFrom t n
@@ -198,10 +208,7 @@ module _ (bs : List ℕ) (i at : ℕ) (st : Stands bs i at) where
 
   -- its terms are below 64 and its sets below 8
   pub in-range : ConstraintIn 64 8 this
-  in-range =
-      let r = opened bs (st .tab) (st .opened) in
-      let v = read-valid bs (r .prob) (r .reads) in
-      wider (termCount (r .prob)) (setCount (r .prob)) (v .few-terms) (v .few-sets) this (of-problem bs (st .tab) i (st .there) r (ConstraintIn (termCount (r .prob)) (setCount (r .prob))) (constraints-in (r .prob) v))
+  in-range = let s = opened-sizes bs (st .tab) (st .opened) in constraint-in bs (st .tab) i (st .opened) (st .there) 64 8 (s .2) (s .1)
 
   -- ---- its entries
 

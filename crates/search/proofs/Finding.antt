@@ -1,117 +1,68 @@
--- Where the search stands, before a constraint, a rule or a root, and how it goes on.
+-- What the loops of `search` keep, and how each goes on: for every branch that the parents and rows show, the first place is the first of what is left. At the end, the same for the loop of `listings`: of each constraint before the present one the entries are listed.
 use mathlib.Core.Path.{_≡_, refl, sym, ap, _∙_, subst}
-use mathlib.Core.Logic.{_⊎_, inl, inr}
-use mathlib.Core.Bool.{Bool, true, false, false≢true}
-use mathlib.Core.Option.{Option, none, some, Option·map}
+use mathlib.Core.Logic.{inl, inr}
+use mathlib.Core.Bool.{Bool, true, false}
+use mathlib.Core.Option.{Option·map, some, map-eq-none-iff, map-eq-some-iff, none}
 use mathlib.Core.List.{List, map}
-use Prim.Native.Nat.{ℕ, zero, _+_, _-_, _^_, _/_, _%_, _<_, _≤_}
+use Prim.Native.Nat.{ℕ, _+_, _-_, _*_, _^_, _/_, _%_, _<_, _≤_}
 use native.Mathlib.Omega.{arith}
 use native.Mathlib.Decide.{ℕ-discrete}
-use lib.ListN.{length, getD, set}
+use lib.ListN.{length, getD, set, length-set}
 use lib.Seq.{getD-set-same, getD-set-other}
 use lib.Dec.{eqb}
 use borrow.Author.Tests.{eq-eqb, ne-eqb}
-use Rattle.calculus.specs.Lists.{upFrom, any, first, bit, Each}
+use Rattle.calculus.specs.Lists.{upFrom, any, first, bit}
 use Rattle.calculus.specs.Terms.{Term, term}
 use Rattle.calculus.specs.Relations.{equal, union, disjoint, subset, intersection}
 use Rattle.calculus.specs.Meaning as calculus
 use Rattle.calculus.specs.Branch.{Branch, walk, rootAt}
-use Rattle.calculus.specs.Invariants.{Falls}
+use Rattle.calculus.specs.Invariants.{Falls, ConstraintIn}
 use Rattle.calculus.specs.Reading.{read}
 use Rattle.calculus.proofs.Bools.{any-map}
 use Rattle.calculus.proofs.Masks.{bit-zero}
 use Rattle.calculus.proofs.Walk.{walk-root, root-walk}
-use Rattle.calculus.proofs.Sequences.{each-at}
-use Rattle.calculus.specs.Invariants.{ConstraintIn}
-use Rattle.calculus.proofs.ConstraintLaws.{constraints-in}
-use Rattle.calculus.proofs.ReadValid.{read-valid}
 use Rattle.bits.proofs.Bits.{bit-shr}
-use Rattle.problem.specs.declared.Table.{Table}
-use Rattle.problem.specs.Table.{problemTable, Opened, Stands, constraintsOf, constraintOf, kindOf, noConstraint, listed}
-use Rattle.problem.proofs.Access.{opened, opened-sizes}
+use Rattle.problem.specs.declared.Totals.{Totals}
+use Rattle.problem.specs.Table.{Tabled, Stands, constraintsOf, constraintOf, tableBy, witnessOf}
+use Rattle.problem.proofs.Access.{opened-sizes, constraint-count}
 use Rattle.places.specs.Places.{propagationSpan, splitSpan, spanOf, InSpan, RuleOf, entriesOf, moveAt, firstAt}
 use Rattle.places.proofs.Offered.{relation-19, position-root, position-of}
 use Rattle.constraints.specs.declared.Constraint.{Constraint}
-use Rattle.constraints.specs.Decoded.{decoded, Handled, Unpacked}
-use Rattle.constraints.proofs.Decoding.{kind-here}
-use Rattle.rules.specs.Words.{EntryBits, Asked, Shown, Fits}
+use Rattle.constraints.specs.Decoded.{decoded, Unpacked}
+use Rattle.constraints.proofs.Decoding.{stands-there, two-operands, kind-here, constraint-in}
+use Rattle.rules.specs.Spans.{Spanned}
+use Rattle.rules.specs.Words.{Lent, EntryBits, Asked, Shown, Fits}
 use Rattle.rules.proofs.Lowest.{first-fails}
 use Rattle.rules.proofs.FitLaws.{entries-below}
 use Rattle.search.specs.declared.Found.{Found}
-use Rattle.search.specs.First.{ListedOf, firstPlace, nowhere, Finds}
-use Rattle.search.proofs.Order.{position-hit, position-miss, positions-done, ownFirst, rulesFrom, rules-begin, rule-hit, rule-miss, rules-done, constraintsFrom, constraint-hit, constraint-miss, constraints-done}
+use Rattle.search.specs.First.{ListedOf, Prepared, firstPlace, nowhere, Finds}
+use Rattle.search.proofs.Order.{position-hit, position-miss, positions-done, rulesFrom, rule-hit, rule-miss, rules-done, constraintsFrom, constraints-begin, constraint-hit, constraint-miss, constraints-done}
 
 -- ---- rules of a constraint
 
--- rules are numbered from 1, or there are none
-abbrev Numbered : ℕ × ℕ → Type 0
-Numbered s = (1 ≤ s .0) ⊎ (s .1 ≡ 0)
+-- each span ends at no more than twice its first rule, so that none has rule 0
+spans : (l : calculus.Constraint) → (propagationSpan l .1 ≤ 2 * propagationSpan l .0) × (splitSpan l .1 ≤ 2 * splitSpan l .0)
+spans (calculus.member t A) = (omega arith, omega arith)
+spans (calculus.nonmember t A) = (omega arith, omega arith)
+spans (calculus.same t u) = (omega arith, omega arith)
+spans (calculus.different t u) = (omega arith, omega arith)
+spans (calculus.relation equal A B C) = (omega arith, omega arith)
+spans (calculus.relation union A B C) = (omega arith, omega arith)
+spans (calculus.relation disjoint A B C) = (omega arith, omega arith)
+spans (calculus.relation subset A B C) = (omega arith, omega arith)
+spans (calculus.relation intersection A B C) = (omega arith, omega arith)
+spans (calculus.negation k A B C w) = (omega arith, omega arith)
+spans (calculus.exactly A es) = (omega arith, omega arith)
+spans (calculus.interval A x y) = (omega arith, omega arith)
 
-numbered : (l : calculus.Constraint) → Numbered (propagationSpan l) × Numbered (splitSpan l)
-numbered (calculus.member t A) = (inl (omega arith), inr refl)
-numbered (calculus.nonmember t A) = (inl (omega arith), inr refl)
-numbered (calculus.same t u) = (inl (omega arith), inr refl)
-numbered (calculus.different t u) = (inl (omega arith), inr refl)
-numbered (calculus.relation equal A B C) = (inl (omega arith), inr refl)
-numbered (calculus.relation union A B C) = (inl (omega arith), inl (omega arith))
-numbered (calculus.relation disjoint A B C) = (inl (omega arith), inr refl)
-numbered (calculus.relation subset A B C) = (inl (omega arith), inr refl)
-numbered (calculus.relation intersection A B C) = (inl (omega arith), inr refl)
-numbered (calculus.negation k A B C w) = (inr refl, inl (omega arith))
-numbered (calculus.exactly A es) = (inl (omega arith), inl (omega arith))
-numbered (calculus.interval A x y) = (inl (omega arith), inl (omega arith))
-
-from-1 : (s : ℕ × ℕ) (j : ℕ) → Numbered s → InSpan s j → ¬ (j ≡ 0)
-from-1 s j (inl l) h e = omega (arith, h .0)
-from-1 s j (inr z) h e = omega (arith, h .1)
-
-rule-from-1 : (split : Bool) (l : calculus.Constraint) (j : ℕ) → InSpan (spanOf split l) j → ¬ (j ≡ 0)
-rule-from-1 false l j h = from-1 (propagationSpan l) j (numbered l .0) h
-rule-from-1 true l j h = from-1 (splitSpan l) j (numbered l .1) h
-
--- a propagation rule and a split are rules of the constraint
-rule-of : (split : Bool) (l : calculus.Constraint) (j : ℕ) → InSpan (spanOf split l) j → RuleOf l j
+-- a propagation rule or a split is a rule of the constraint, and is not rule 0
+pub rule-of : (split : Bool) (l : calculus.Constraint) (j : ℕ) → InSpan (spanOf split l) j → RuleOf l j
 rule-of false l j h = inl h
 rule-of true l j h = inr h
 
--- ---- the problem
-
-fewer-sets : (n m : ℕ) → m ≤ 8 → (l : calculus.Constraint) → ConstraintIn n m l → ConstraintIn n 8 l
-fewer-sets n m v (calculus.member t A) a = (a .0, omega (arith, a .1))
-fewer-sets n m v (calculus.nonmember t A) a = (a .0, omega (arith, a .1))
-fewer-sets n m v (calculus.same t s) a = a
-fewer-sets n m v (calculus.different t s) a = a
-fewer-sets n m v (calculus.relation k A B C) a = (omega (arith, a .0), omega (arith, a .1), omega (arith, a .2))
-fewer-sets n m v (calculus.negation k A B C w) a = ((omega (arith, a .0 .0), omega (arith, a .0 .1), omega (arith, a .0 .2)), a .1)
-fewer-sets n m v (calculus.exactly A es) a = (omega (arith, a .0), a .1)
-fewer-sets n m v (calculus.interval A i j) a = (omega (arith, a .0), a .1)
-
-module _ (bs : List ℕ) (tab : Table) (o : Opened bs tab) where
-  pub terms-few : tab .terms ≤ 64
-  terms-few = opened-sizes bs tab o .2
-
-  in-table : Each (ConstraintIn (tab .terms) (tab .sets)) (constraintsOf (read bs))
-  unfolding problemTable constraintsOf
-  in-table = let r = opened bs tab o in rw (r .shows, r .reads) (constraints-in (r .prob) (read-valid bs (r .prob) (r .reads)))
-
-  -- the terms of constraint i are the problem's
-  pub constraint-in : (i : ℕ) → i < length (constraintsOf (read bs)) → ConstraintIn (tab .terms) 8 (getD (constraintsOf (read bs)) i noConstraint)
-  constraint-in i l = fewer-sets (tab .terms) (tab .sets) (opened-sizes bs tab o .1) (getD (constraintsOf (read bs)) i noConstraint) (each-at (ConstraintIn (tab .terms) (tab .sets)) (constraintsOf (read bs)) noConstraint in-table i l)
-
--- the kind byte is that of constraint i
-pub kind-is : (bs : List ℕ) (i at : ℕ) → Stands bs i at → kindOf (getD (constraintsOf (read bs)) i noConstraint) ≡ getD bs at 0
-unfolding constraintOf
-kind-is bs i at s = sym (kind-here bs i at s)
-
--- ---- what an image tells
-
-none-of : (g : ℕ → ℕ) (o : Option ℕ) → Option·map g o ≡ none → o ≡ none
-none-of g none e = refl
-none-of g (some x) e = cc
-
-some-of : (g : ℕ → ℕ) (o : Option ℕ) (h : ℕ) → Option·map g o ≡ some h → (p : ℕ) × (o ≡ some p) × (g p ≡ h)
-some-of g none h e = let w : false ≡ true = cc in absurd (false≢true w)
-some-of g (some x) h e = let z : g x ≡ h = cc in (x, refl, z)
+not-0 : (split : Bool) (l : calculus.Constraint) (j : ℕ) → InSpan (spanOf split l) j → ¬ (j ≡ 0)
+not-0 false l j h e = omega (arith, spans l .0, h .0, h .1)
+not-0 true l j h e = omega (arith, spans l .1, h .0, h .1)
 
 -- ---- the root concerned
 
@@ -131,7 +82,7 @@ module _ (n : ℕ) (b : Branch) (fall : Falls (b .parents)) where
   entry-root (calculus.exactly A es) j p r e = rw (eq-eqb j 19 e) (root-root (getD es p (term 0) .index))
   entry-root (calculus.interval A x y) j p r e = rw (eq-eqb j 19 e) (root-root (getD (calculus.entries x y) p (term 0) .index))
 
-  pub concerned-root : (l : calculus.Constraint) (j p : ℕ) → n ≤ 64 → ConstraintIn 64 8 l → RuleOf l j → firstAt n b l j ≡ some p → rootAt b (moveAt b l j p .0 .index) ≡ moveAt b l j p .0 .index
+  concerned-root : (l : calculus.Constraint) (j p : ℕ) → n ≤ 64 → ConstraintIn 64 8 l → RuleOf l j → firstAt n b l j ≡ some p → rootAt b (moveAt b l j p .0 .index) ≡ moveAt b l j p .0 .index
   concerned-root l j p few c r f = go (ℕ-discrete j 19)
     where
       go : Dec (j ≡ 19) → rootAt b (moveAt b l j p .0 .index) ≡ moveAt b l j p .0 .index
@@ -140,163 +91,230 @@ module _ (n : ℕ) (b : Branch) (fall : Falls (b .parents)) where
           let w = position-root n b l j p fall few c e f in
           subst (λ (k : ℕ). rootAt b k ≡ k) (sym (ap (λ (x : Term). x .index) (w .2))) (w .1)
 
--- ---- where the search stands
+-- ---- the turn of constraint i
 
--- at rule j of constraint i, whose rules end at end, and which is decoded as l
-pub record Here (split : Bool) (n : ℕ) (ls : List calculus.Constraint) (i j end : ℕ) (l : Constraint) : Type 0 where
-  pub in-problem : i < length ls
-  pub begun : spanOf split (getD ls i noConstraint) .0 ≤ j
-  pub ends : end ≡ spanOf split (getD ls i noConstraint) .1
-  pub in-terms : ConstraintIn n 8 (getD ls i noConstraint)
-  pub in-range : ConstraintIn 64 8 (getD ls i noConstraint)
-  pub few : n ≤ 64
-  pub entries : List ℕ
-  pub opened : getD ls i noConstraint ≡ decoded (map term entries) l
-  pub handled : Handled entries l
+-- it stands at its offset, and what is read of it is there
+pub record Turn (bs offsets witnesses : List ℕ) (i : ℕ) : Type 0 where
+  pub small : i < 48
+  pub stands : Stands bs i (getD offsets i 0)
+  pub witness : term (getD witnesses i 0) ≡ witnessOf bs i
+  pub in-problem : i < length (constraintsOf (read bs))
+  pub in-bytes : getD offsets i 0 + 2 < length bs
+  pub short : length bs ≤ 4096
+  pub offsets-long : length offsets ≡ 48
+  pub witnesses-long : length witnesses ≡ 48
 
-module _ (split : Bool) (n : ℕ) (ls : List calculus.Constraint) (b : Branch) where
-  -- before constraint i
-  abbrev pub AtConstraint : ℕ → Type 0
-  AtConstraint i = firstPlace split n ls b ≡ constraintsFrom split n ls b i
-
-  -- before rule j of constraint i, whose rules end at end
-  pub record AtRule (i j end : ℕ) : Type 0 where
-    pub before : AtConstraint i
-    pub left : ownFirst n b split (getD ls i noConstraint) ≡ rulesFrom n b (getD ls i noConstraint) j end
-
-  -- before root h of rule j: it is the first where the word has a bit
-  pub record AtRoot (i j end fit h : ℕ) : Type 0 where
-    pub rule : AtRule i j end
-    pub left : Option·map (λ (p : ℕ). moveAt b (getD ls i noConstraint) j p .0 .index) (firstAt n b (getD ls i noConstraint) j) ≡ first (bit fit) (upFrom h (n - h))
-
-  -- past the last constraint no rule applies
-  pub search-over : (i : ℕ) → AtConstraint i → length ls ≤ i → (r : Found) → r ≡ nowhere → Finds split n ls b r
-  search-over i a h r e = subst (Finds split n ls b) (sym e) (record { position = 0; first-is = a ∙ constraints-done split n ls b i h; there = λ z. absurd (z refl); none = λ _. refl })
-
-  -- a constraint without rules is passed over
-  pub no-rules : (i : ℕ) → AtConstraint i → i < length ls → (first end : ℕ) → first ≡ spanOf split (getD ls i noConstraint) .0 → end ≡ spanOf split (getD ls i noConstraint) .1 → end ≤ first → AtConstraint (i + 1)
-  no-rules i a h first end f e k =
-      a ∙ constraint-miss split n ls b i h (rules-begin n b split (getD ls i noConstraint) ∙ rules-done n b (getD ls i noConstraint) (spanOf split (getD ls i noConstraint) .0) (spanOf split (getD ls i noConstraint) .1) (omega arith))
-
-  -- at the first rule of constraint i
-  pub rules-start : (i : ℕ) → AtConstraint i → (first end : ℕ) → first ≡ spanOf split (getD ls i noConstraint) .0 → end ≡ spanOf split (getD ls i noConstraint) .1 → AtRule i first end
-  rules-start i a first end f e = record { before = a; left = rw (f, e) (rules-begin n b split (getD ls i noConstraint)) }
-
-  module _ (i j end : ℕ) (l : Constraint) (s : Here split n ls i j end l) where
-    -- past its last rule none of constraint i applies
-    pub next-constraint : AtRule i j end → end ≤ j → AtConstraint (i + 1)
-    next-constraint a h = a .before ∙ constraint-miss split n ls b i (s .in-problem) (a .left ∙ rules-done n b (getD ls i noConstraint) j end h)
-
-    -- rule j does not apply
-    rule-over : AtRule i j end → j < end → firstAt n b (getD ls i noConstraint) j ≡ none → AtRule i (j + 1) end
-    rule-over a h e = record { before = a .before; left = a .left ∙ rule-miss n b (getD ls i noConstraint) j end h e }
-
-    -- the word of rule j
-    pub roots-start : AtRule i j end → (fit : ℕ) → Fits n b (getD ls i noConstraint) j fit → AtRoot i j end fit 0
-    roots-start a fit f = let z : n ≡ n - 0 = omega arith in record { rule = a; left = f ∙ ap (λ (k : ℕ). first (bit fit) (upFrom 0 k)) z }
-
-    -- an empty word: the rule does not apply
-    pub no-roots : AtRule i j end → j < end → (fit : ℕ) → Fits n b (getD ls i noConstraint) j fit → fit ≡ 0 → AtRule i (j + 1) end
-    no-roots a h fit f z = rule-over a h (none-of _ _ (f ∙ first-fails (bit fit) (upFrom 0 n) (λ k. ap (λ (w : ℕ). bit w k) z ∙ bit-zero k)))
-
-    module _ (fit h : ℕ) (a : AtRoot i j end fit h) where
-      pub next-rule : j < end → n ≤ h → AtRule i (j + 1) end
-      next-rule k m = rule-over (a .rule) k (none-of _ _ (a .left ∙ positions-done (bit fit) h n m))
-
-      pub next-root : h < n → ¬ (fit / 2 ^ h % 2 ≡ 1) → AtRoot i j end fit (h + 1)
-      next-root m z = record { rule = a .rule; left = a .left ∙ position-miss (bit fit) h n m (sym (bit-shr fit h) ∙ ne-eqb (fit / 2 ^ h % 2) 1 z) }
-
-      -- a root whose bit is set is that of the first place
-      pub search-hit : Falls (b .parents) → j < end → h < n → fit / 2 ^ h % 2 ≡ 1 → Finds split n ls b (record { number = i; rule = j; root = record { 0 = h }; constraint = l })
-      search-hit fall k m z =
-          let c : calculus.Constraint = getD ls i noConstraint in
-          let t : bit fit h ≡ true = sym (bit-shr fit h) ∙ eq-eqb (fit / 2 ^ h % 2) 1 z in
-          let g = some-of (λ (p : ℕ). moveAt b c j p .0 .index) (firstAt n b c j) h (a .left ∙ position-hit (bit fit) h n m t) in
-          let p : ℕ = g .0 in
-          let f : firstAt n b c j ≡ some p = g .1 in
-          let y : InSpan (spanOf split c) j = (s .begun, omega (arith, s .ends)) in
-          let w = position-of n b c j p fall (s .few) (s .in-range) (rule-of split c j y) f in
-          record {
-            position = p;
-            first-is = rw (ne-eqb j 0 (rule-from-1 split c j y)) (a .rule .before ∙ constraint-hit split n ls b i (s .in-problem) (moveAt b c j p) (a .rule .left ∙ rule-hit n b c j end k p f));
-            there = λ _. record {
-              within = record { in-problem = s .in-problem; of-rule = y; of-entry = w .0; of-root = λ o. w .1 o };
-              concerns = ap term (g .2);
-              low = m;
-              rooted = subst (λ (k : ℕ). rootAt b k ≡ k) (g .2) (concerned-root n b fall c j p (s .few) (s .in-range) (rule-of split c j y) f);
-              entries = s .entries;
-              opened = s .opened;
-              handled = s .handled;
-            };
-            none = λ e. absurd (rule-from-1 split c j y e);
-          }
-
--- ---- the entries as bits, of the constraints before number i
-
-abbrev FilledAt : List calculus.Constraint → ℕ → ℕ → Type 0
-FilledAt ls k w = ((h : ℕ) → bit w h ≡ any (λ (e : Term). eqb (e .index) h) (entriesOf (getD ls k noConstraint))) × (w < 2 ^ 64)
-
-abbrev pub Filled : List calculus.Constraint → List ℕ → ℕ → Type 0
-Filled ls listed i = (k : ℕ) → k < i → FilledAt ls k (getD listed k 0)
-
-pub fill-end : (ls : List calculus.Constraint) (listed : List ℕ) (i : ℕ) → length listed ≡ 48 → length ls ≤ i → Filled ls listed i → ListedOf ls listed
-fill-end ls listed i n h f = record { long = n; bits = λ k l. f k (omega arith) .0; small = λ k l. f k (omega arith) .1 }
-
--- ---- the code's values put the search there
-
-module _ (bs : List ℕ) (i : ℕ) (es : List ℕ) (l : Constraint) (u : Unpacked bs i es l) where
-  -- constraint i is the one decoded
-  constraint-is : getD (constraintsOf (read bs)) i noConstraint ≡ decoded (map term es) l
-  unfolding constraintOf
-  constraint-is = u .is
-
-  pub here-start : (tab : Table) → Opened bs tab → (split : Bool) → i < length (constraintsOf (read bs)) → (first end : ℕ) → first ≡ spanOf split (getD (constraintsOf (read bs)) i noConstraint) .0 → end ≡ spanOf split (getD (constraintsOf (read bs)) i noConstraint) .1 → Here split (tab .terms) (constraintsOf (read bs)) i first end l
-  unfolding constraintOf
-  here-start tab o split h first end f e = record {
-    in-problem = h;
-    begun = omega (arith, f);
-    ends = e;
-    in-terms = constraint-in bs tab o i h;
-    in-range = subst (ConstraintIn 64 8) (sym constraint-is) (u .handled .in-range);
-    few = terms-few bs tab o;
-    entries = es;
-    opened = constraint-is;
-    handled = u .handled;
-  }
-
-  -- the entries of constraint i by its list's
-  entry-at : (k : ℕ) → any (λ (e : Term). eqb (e .index) k) (entriesOf (getD (constraintsOf (read bs)) i noConstraint)) ≡ any (λ (e : ℕ). eqb e k) es
-  entry-at k = ap (λ (x : calculus.Constraint). any (λ (e : Term). eqb (e .index) k) (entriesOf x)) constraint-is ∙ ap (any (λ (e : Term). eqb (e .index) k)) (u .handled .entries-are) ∙ any-map (λ (e : Term). eqb (e .index) k) term es
-
-  pub entries-low : Each (λ e. e < 64) es
-  entries-low = entries-below es l (u .handled)
-
-  pub fill-next : (listed : List ℕ) → length listed ≡ 48 → i < 48 → Filled (constraintsOf (read bs)) listed i → (w : ℕ) → EntryBits es w → Filled (constraintsOf (read bs)) (set listed i w) (i + 1)
-  fill-next listed n h f w b k m = go (ℕ-discrete k i)
-    where
-      go : Dec (k ≡ i) → FilledAt (constraintsOf (read bs)) k (getD (set listed i w) k 0)
-      go (yes e) = subst (λ (x : ℕ). FilledAt (constraintsOf (read bs)) x (getD (set listed i w) x 0)) (sym e)
-          (subst (FilledAt (constraintsOf (read bs)) i) (sym (getD-set-same listed i w 0 (omega arith))) (λ q. b .bits q ∙ sym (entry-at q), b .small))
-      go (no e) = subst (FilledAt (constraintsOf (read bs)) k) (sym (getD-set-other listed i k w 0 e)) (f k (omega arith))
-
-  module _ (split : Bool) (n j end : ℕ) (s : Here split n (constraintsOf (read bs)) i j end l) where
-    rule-here : j < end → RuleOf (decoded (map term es) l) j
-    rule-here h = subst (λ (x : calculus.Constraint). RuleOf x j) constraint-is (rule-of split (getD (constraintsOf (read bs)) i noConstraint) j (s .begun, omega (arith, s .ends)))
-
-    -- its entries as bits
-    pub asked-here : (listed : List ℕ) → ListedOf (constraintsOf (read bs)) listed → j < end → Asked es (getD listed i 0) l j
-    asked-here listed w h = record {
-      handled = u .handled;
-      of-rule = rule-here h;
-      entries = record {
-        below = entries-low;
-        bits = λ k. w .bits i (s .in-problem) k ∙ entry-at k;
-        small = w .small i (s .in-problem);
-      };
+pub turn-of : {bs : List ℕ} {t : Totals} {offsets witnesses : List ℕ} {i : ℕ} → Tabled bs t offsets witnesses → i < t .constraints → Turn bs offsets witnesses i
+turn-of {bs} {t} {offsets} {witnesses} {i} d l =
+    let s = stands-there bs (tableBy t offsets witnesses) i (d .opened) l in
+    let w = two-operands bs i (getD offsets i 0) (s .1) in
+    record {
+      small = s .0;
+      stands = s .1;
+      witness = s .2;
+      in-problem = omega (arith, constraint-count bs (tableBy t offsets witnesses) (d .opened));
+      in-bytes = w .1;
+      short = w .2;
+      offsets-long = d .sized;
+      witnesses-long = d .sized-witnesses;
     }
 
-    pub fits-here : (ps rows : List ℕ) (fit : ℕ) → ((m : ℕ) (b : Branch) → m ≤ 64 → ConstraintIn m 8 (decoded (map term es) l) → Shown b ps rows → Fits m b (decoded (map term es) l) j fit) → (b : Branch) → Shown b ps rows → Fits n b (getD (constraintsOf (read bs)) i noConstraint) j fit
-    fits-here ps rows fit f b sh = subst (λ (x : calculus.Constraint). Fits n b x j fit) (sym constraint-is) (f n b (s .few) (subst (ConstraintIn n 8) constraint-is (s .in-terms)) sh)
+-- its entries are those of the list that it is unpacked with
+entries-by : {bs : List ℕ} {i : ℕ} {es : List ℕ} {l : Constraint} → Unpacked bs i es l → (h : ℕ) → any (λ (e : Term). eqb (e .index) h) (entriesOf (constraintOf bs i)) ≡ any (λ (e : ℕ). eqb e h) es
+entries-by {es = es} u h = ap (λ (x : calculus.Constraint). any (λ (e : Term). eqb (e .index) h) (entriesOf x)) (u .is) ∙ ap (any (λ (e : Term). eqb (e .index) h)) (u .handled .entries-are) ∙ any-map (λ (e : Term). eqb (e .index) h) term es
 
-pub here-next : (split : Bool) (n : ℕ) (ls : List calculus.Constraint) (i j end : ℕ) (l : Constraint) → Here split n ls i j end l → Here split n ls i (j + 1) end l
-here-next split n ls i j end l s = record { in-problem = s .in-problem; begun = omega (arith, s .begun); ends = s .ends; in-terms = s .in-terms; in-range = s .in-range; few = s .few; entries = s .entries; opened = s .opened; handled = s .handled }
+-- ---- what the loops of the search keep
+
+-- constraint i is decoded as l with its entries, which are also bits of a word, and its rules end at end
+pub record Here (split : Bool) (n : ℕ) (bs : List ℕ) (i end : ℕ) (es : List ℕ) (bits : ℕ) (l : Constraint) : Type 0 where
+  pub in-problem : i < length (constraintsOf (read bs))
+  pub ends : end ≡ spanOf split (constraintOf bs i) .1
+  pub in-terms : ConstraintIn n 8 (constraintOf bs i)
+  pub unpacked : Unpacked bs i es l
+  pub entries : EntryBits es bits
+
+module _ (split : Bool) (n count : ℕ) (bs ps rows : List ℕ) where
+  -- before constraint i
+  pub record AtConstraint (i : ℕ) (r : Found) : Type 0 where
+    pub counted : count ≡ length (constraintsOf (read bs))
+    pub few : n ≤ 64
+    pub falls : Falls ps
+    pub nothing : r ≡ nowhere
+    pub left : (b : Branch) → Shown b ps rows → firstPlace split n (constraintsOf (read bs)) b ≡ constraintsFrom split n (constraintsOf (read bs)) b i
+
+  -- before rule j of constraint i
+  pub record AtRule (i j end : ℕ) (es : List ℕ) (bits : ℕ) (l : Constraint) (r : Found) : Type 0 where
+    pub turn : AtConstraint i r
+    pub here : Here split n bs i end es bits l
+    pub begun : spanOf split (constraintOf bs i) .0 ≤ j
+    pub left : (b : Branch) → Shown b ps rows → rulesFrom split n b (constraintOf bs i) (spanOf split (constraintOf bs i) .0) ≡ rulesFrom split n b (constraintOf bs i) j
+
+  -- before root h of rule j, which applies first at the lowest bit of its word
+  pub record AtRoot (i j end : ℕ) (es : List ℕ) (bits : ℕ) (l : Constraint) (fit h : ℕ) (r : Found) : Type 0 where
+    pub rule : AtRule i j end es bits l r
+    pub in-span : j < end
+    pub left : (b : Branch) → Shown b ps rows → Option·map (λ (p : ℕ). moveAt b (constraintOf bs i) j p .0 .index) (firstAt n b (constraintOf bs i) j) ≡ first (bit fit) (upFrom h (n - h))
+
+-- what `fitting` ensures of the word of rule j
+abbrev Fitting : (ps rows es : List ℕ) → Constraint → (j fit : ℕ) → Type 0
+Fitting ps rows es l j fit = (n : ℕ) (b : Branch) → n ≤ 64 → ConstraintIn n 8 (decoded (map term es) l) → Shown b ps rows → Fits n b (decoded (map term es) l) j fit
+
+-- ---- how the search goes
+
+-- at the first constraint
+pub search-start : {bs : List ℕ} {t : Totals} {offsets witnesses ps rows : List ℕ} → Tabled bs t offsets witnesses → Lent ps rows → (split : Bool) → AtConstraint split (t .terms) (t .constraints) bs ps rows 0 nowhere
+search-start {bs} {t} {offsets} {witnesses} d e split = record {
+  counted = constraint-count bs (tableBy t offsets witnesses) (d .opened);
+  few = opened-sizes bs (tableBy t offsets witnesses) (d .opened) .2;
+  falls = e .rooted .falls;
+  nothing = refl;
+  left = λ b _. constraints-begin split (t .terms) (constraintsOf (read bs)) b;
+}
+
+-- `span_of` is asked for the rules of the constraint whose turn it is
+span-here : {bs offsets witnesses : List ℕ} {i : ℕ} → Turn bs offsets witnesses i → (split : Bool) (first end : ℕ) → Spanned split (getD bs (getD offsets i 0) 0) first end → (first ≡ spanOf split (constraintOf bs i) .0) × (end ≡ spanOf split (constraintOf bs i) .1)
+span-here {bs} {offsets} {i = i} t split first end s = s (constraintOf bs i) (sym (kind-here bs i (getD offsets i 0) (t .stands)))
+
+-- at the first rule of the constraint whose turn it is
+pub rules-start : {split : Bool} {i first end : ℕ} {bs ps rows numbers offsets witnesses listed es : List ℕ} {t : Totals} {l : Constraint} {r : Found} → AtConstraint split (t .terms) (t .constraints) bs ps rows i r → Prepared bs numbers t offsets witnesses listed → i < t .constraints
+    → Spanned split (getD bs (getD offsets i 0) 0) first end → Unpacked bs i es l → AtRule split (t .terms) (t .constraints) bs ps rows i first end es (getD listed i 0) l r
+unfolding constraintOf
+rules-start {split} {i} {first} {end} {bs} {offsets = offsets} {witnesses} {es = es} {t} {l} a w k p u =
+    let y = turn-of (w .tabled) k in
+    let q = span-here y split first end p in
+    let o = w .tabled .opened in
+    record {
+      turn = a;
+      here = record {
+        in-problem = y .in-problem;
+        ends = q .1;
+        in-terms = constraint-in bs (tableBy t offsets witnesses) i o k (t .terms) 8 (omega arith) (opened-sizes bs (tableBy t offsets witnesses) o .1);
+        unpacked = u;
+        entries = record { below = entries-below es l (u .handled); bits = λ h. w .listed-are .bits i (y .in-problem) h ∙ entries-by u h; small = w .listed-are .small i (y .in-problem) };
+      };
+      begun = omega (arith, q .0);
+      left = λ b _. ap (rulesFrom split (t .terms) b (constraintOf bs i)) (sym (q .0));
+    }
+
+module _ {split : Bool} {n count : ℕ} {bs ps rows : List ℕ} where
+  -- past the last constraint no rule applies
+  pub search-over : {i : ℕ} {r : Found} → AtConstraint split n count bs ps rows i r → count ≤ i → (b : Branch) → Shown b ps rows → Finds split n (constraintsOf (read bs)) b r
+  search-over {i} a h b s =
+      subst (Finds split n (constraintsOf (read bs)) b) (sym (a .nothing))
+      (record { position = 0; first-is = a .left b s ∙ constraints-done split n (constraintsOf (read bs)) b i (omega (arith, a .counted)); there = λ z. absurd (z refl); none = λ _. refl })
+
+  -- none of the rules of constraint i applies
+  constraint-over : {i : ℕ} {r s : Found} → AtConstraint split n count bs ps rows i r → i < length (constraintsOf (read bs)) → s ≡ r
+      → ((b : Branch) → Shown b ps rows → rulesFrom split n b (constraintOf bs i) (spanOf split (constraintOf bs i) .0) ≡ none) → AtConstraint split n count bs ps rows (i + 1) s
+  unfolding constraintOf
+  constraint-over {i} a h e f = record {
+    counted = a .counted;
+    few = a .few;
+    falls = a .falls;
+    nothing = e ∙ a .nothing;
+    left = λ b z. a .left b z ∙ constraint-miss split n (constraintsOf (read bs)) b i h (f b z);
+  }
+
+  -- constraint i has no rules
+  pub no-rules : {i first end : ℕ} {offsets witnesses : List ℕ} {r s : Found} → AtConstraint split n count bs ps rows i r → Turn bs offsets witnesses i → Spanned split (getD bs (getD offsets i 0) 0) first end → end ≤ first → s ≡ r → AtConstraint split n count bs ps rows (i + 1) s
+  no-rules {i} {first} {end} a t p k e =
+      let q = span-here t split first end p in
+      constraint-over a (t .in-problem) e (λ b _. rules-done split n b (constraintOf bs i) (spanOf split (constraintOf bs i) .0) (omega (arith, q .0, q .1)))
+
+  module _ {i j end : ℕ} {es : List ℕ} {bits : ℕ} {l : Constraint} {r : Found} where
+    module _ (a : AtRule split n count bs ps rows i j end es bits l r) where
+      -- past the last rule
+      pub next-constraint : end ≤ j → {s : Found} → s ≡ r → AtConstraint split n count bs ps rows (i + 1) s
+      next-constraint h e = constraint-over (a .turn) (a .here .in-problem) e (λ b z. a .left b z ∙ rules-done split n b (constraintOf bs i) j (omega (arith, a .here .ends)))
+
+      -- rule j is one of the constraint's
+      in-span : j < end → InSpan (spanOf split (constraintOf bs i)) j
+      in-span h = (a .begun, omega (arith, a .here .ends))
+
+      -- rule j does not apply
+      rule-over : j < end → {s : Found} → s ≡ r → ((b : Branch) → Shown b ps rows → firstAt n b (constraintOf bs i) j ≡ none) → AtRule split n count bs ps rows i (j + 1) end es bits l s
+      rule-over h e f = record {
+        turn = subst (AtConstraint split n count bs ps rows i) (sym e) (a .turn);
+        here = a .here;
+        begun = omega (arith, a .begun);
+        left = λ b z. a .left b z ∙ rule-miss split n b (constraintOf bs i) j (in-span h .1) (f b z);
+      }
+
+      -- its word can be asked for
+      pub asked : j < end → Asked es bits l j
+      asked h = record { handled = a .here .unpacked .handled; of-rule = subst (λ (x : calculus.Constraint). RuleOf x j) (a .here .unpacked .is) (rule-of split (constraintOf bs i) j (in-span h)); entries = a .here .entries }
+
+      module _ {fit : ℕ} (f : Fitting ps rows es l j fit) where
+        fits : (b : Branch) → Shown b ps rows → Fits n b (constraintOf bs i) j fit
+        fits b z = subst (λ (x : calculus.Constraint). Fits n b x j fit) (sym (a .here .unpacked .is)) (f n b (a .turn .few) (subst (ConstraintIn n 8) (a .here .unpacked .is) (a .here .in-terms)) z)
+
+        -- a rule whose word is empty does not apply
+        pub no-roots : j < end → fit ≡ 0 → {s : Found} → s ≡ r → AtRule split n count bs ps rows i (j + 1) end es bits l s
+        no-roots h z e = rule-over h e (λ b y. map-eq-none-iff _ _ .0 (fits b y ∙ first-fails (bit fit) (upFrom 0 n) (λ k. ap (λ (w : ℕ). bit w k) z ∙ bit-zero k)))
+
+        -- any other is looked at from root 0 on
+        pub roots-start : j < end → AtRoot split n count bs ps rows i j end es bits l fit 0 r
+        roots-start h = let z : n ≡ n - 0 = omega arith in record { rule = a; in-span = h; left = λ b y. fits b y ∙ ap (λ (k : ℕ). first (bit fit) (upFrom 0 k)) z }
+
+    module _ {fit h : ℕ} (a : AtRoot split n count bs ps rows i j end es bits l fit h r) where
+      -- past the last root
+      pub next-rule : n ≤ h → {s : Found} → s ≡ r → AtRule split n count bs ps rows i (j + 1) end es bits l s
+      next-rule k e = rule-over (a .rule) (a .in-span) e (λ b z. map-eq-none-iff _ _ .0 (a .left b z ∙ positions-done (bit fit) h n k))
+
+      pub next-root : h < n → ¬ (fit / 2 ^ h % 2 ≡ 1) → AtRoot split n count bs ps rows i j end es bits l fit (h + 1) r
+      next-root k z = record { rule = a .rule; in-span = a .in-span; left = λ b y. a .left b y ∙ position-miss (bit fit) h n k (sym (bit-shr fit h) ∙ ne-eqb (fit / 2 ^ h % 2) 1 z) }
+
+      -- a root whose bit is set is that of the first place
+      pub search-hit : h < n → fit / 2 ^ h % 2 ≡ 1 → (b : Branch) → Shown b ps rows → Finds split n (constraintsOf (read bs)) b (record { number = i; rule = j; root = record { 0 = h }; constraint = l })
+      unfolding constraintOf
+      search-hit k z b y =
+          let c : calculus.Constraint = constraintOf bs i in
+          let t : bit fit h ≡ true = sym (bit-shr fit h) ∙ eq-eqb (fit / 2 ^ h % 2) 1 z in
+          let g = map-eq-some-iff (λ (p : ℕ). moveAt b c j p .0 .index) (firstAt n b c j) .0 (a .left b y ∙ position-hit (bit fit) h n k t) in
+          let p : ℕ = g .0 in
+          let f : firstAt n b c j ≡ some p = g .1 in
+          let v : InSpan (spanOf split c) j = in-span (a .rule) (a .in-span) in
+          let fall : Falls (b .parents) = subst Falls (sym (y .parents-are)) (a .rule .turn .falls) in
+          let few = a .rule .turn .few in
+          let m : ConstraintIn 64 8 c = subst (ConstraintIn 64 8) (sym (a .rule .here .unpacked .is)) (a .rule .here .unpacked .handled .in-range) in
+          let w = position-of n b c j p fall few m (rule-of split c j v) f in
+          record {
+            position = p;
+            first-is = rw (ne-eqb j 0 (not-0 split c j v)) (a .rule .turn .left b y ∙ constraint-hit split n (constraintsOf (read bs)) b i (a .rule .here .in-problem) (moveAt b c j p) (a .rule .left b y ∙ rule-hit split n b c j (v .1) p f));
+            there = λ _. record {
+              within = record { in-problem = a .rule .here .in-problem; of-rule = v; of-entry = w .0; of-root = λ o. w .1 o };
+              concerns = ap term (g .2);
+              low = k;
+              rooted = subst (λ (x : ℕ). rootAt b x ≡ x) (g .2) (concerned-root n b fall c j p few m (rule-of split c j v) f);
+              entries = es;
+              opened = a .rule .here .unpacked .is;
+              handled = a .rule .here .unpacked .handled;
+            };
+            none = λ e. absurd (not-0 split c j v e);
+          }
+
+-- ---- what the loop of `listings` keeps, and how it goes
+
+abbrev FilledAt : List ℕ → ℕ → ℕ → Type 0
+FilledAt bs k w = ((h : ℕ) → bit w h ≡ any (λ (e : Term). eqb (e .index) h) (entriesOf (constraintOf bs k))) × (w < 2 ^ 64)
+
+pub record Filled (bs listed : List ℕ) (i : ℕ) : Type 0 where
+  pub long : length listed ≡ 48
+  pub filled : (k : ℕ) → k < i → FilledAt bs k (getD listed k 0)
+
+pub fill-start : (bs listed : List ℕ) → length listed ≡ 48 → Filled bs listed 0
+fill-start bs listed n = record { long = n; filled = λ k l. absurd (omega arith) }
+
+pub fill-next : {bs listed : List ℕ} {i : ℕ} {es : List ℕ} {l : Constraint} {w : ℕ} → Filled bs listed i → i < 48 → Unpacked bs i es l → EntryBits es w → Filled bs (set listed i w) (i + 1)
+fill-next {bs} {listed} {i} {w = w} f h u b = record { long = length-set listed i w ∙ f .long; filled = λ k m. go k m (ℕ-discrete k i) }
+  where
+    go : (k : ℕ) → k < i + 1 → Dec (k ≡ i) → FilledAt bs k (getD (set listed i w) k 0)
+    go k m (yes e) = subst (λ (x : ℕ). FilledAt bs x (getD (set listed i w) x 0)) (sym e)
+        (subst (FilledAt bs i) (sym (getD-set-same listed i w 0 (omega (arith, f .long)))) (λ q. b .bits q ∙ sym (entries-by u q), b .small))
+    go k m (no e) = subst (FilledAt bs k) (sym (getD-set-other listed i k w 0 e)) (f .filled k (omega arith))
+
+pub fill-end : {bs listed : List ℕ} {i : ℕ} {t : Totals} {offsets witnesses : List ℕ} → Filled bs listed i → Tabled bs t offsets witnesses → t .constraints ≤ i → ListedOf (constraintsOf (read bs)) listed
+unfolding constraintOf
+fill-end {bs} {t = t} {offsets} {witnesses} f d h =
+    let n = constraint-count bs (tableBy t offsets witnesses) (d .opened) in
+    record { long = f .long; bits = λ k l. f .filled k (omega arith) .0; small = λ k l. f .filled k (omega arith) .1 }

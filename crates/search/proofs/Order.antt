@@ -1,8 +1,8 @@
--- The order of the search: what is left of it from a constraint, a rule and a position on.
+-- The order of the search. What is left from a constraint, a rule or a position on is a list whose first candidate is sought: it is found at the head, or in the rest, or there is none.
 use mathlib.Core.Path.{_≡_, refl, sym, ap, _∙_}
 use mathlib.Core.Bool.{Bool, true, false}
 use mathlib.Core.Option.{Option, none, some, Option·map}
-use mathlib.Core.List.{List, [], _∷_, _++_, map}
+use mathlib.Core.List.{List, _++_, map}
 use Prim.Native.Nat.{ℕ, suc, _+_, _-_, _<_, _≤_}
 use native.Mathlib.Numerals.{add-one}
 use lib.ListN.{length, getD, drop, drop-of-length-le}
@@ -18,19 +18,10 @@ use Rattle.questions.proofs.Constants.{up-more, up-done}
 use Rattle.problem.specs.Table.{noConstraint}
 use Rattle.places.specs.Places.{spanOf, moveAt, positions, firstAt, offers}
 use Rattle.places.proofs.Offered.{offered}
+use Rattle.rules.proofs.Lowest.{first-map}
 use Rattle.search.specs.First.{firstPlace}
 
--- the first of the images is the image of the first
-first-map : {X Y : Type 0} (p : Y → Bool) (f : X → Y) (xs : List X) → first p (map f xs) ≡ Option·map f (first (λ x. p (f x)) xs)
-first-map p f [] = refl
-first-map {X} {Y} p f (x ∷ xs) = go (p (f x)) (first-map p f xs)
-  where
-    go : (t : Bool) → first p (map f xs) ≡ Option·map f (first (λ x. p (f x)) xs)
-        → _≡_ {A = Option Y} (elim t [ true ↦ some (f x) | false ↦ first p (map f xs) ]) (Option·map f (elim t [ true ↦ some x | false ↦ first (λ x. p (f x)) xs ]))
-    go true ih = refl
-    go false ih = ih
-
--- ---- positions: from k up to n, at one that passes, at one that does not, and at the end
+-- ---- positions from k up to n
 
 module _ (p : ℕ → Bool) (k n : ℕ) where
   pub position-hit : k < n → p k ≡ true → first p (upFrom k (n - k)) ≡ some k
@@ -42,59 +33,50 @@ module _ (p : ℕ → Bool) (k n : ℕ) where
   pub positions-done : n ≤ k → first p (upFrom k (n - k)) ≡ none
   positions-done l = ap (first p) (up-done k n l)
 
--- ---- rules: the same from rule j up to the end
+-- ---- rules of a constraint from rule j on
 
-module _ (n : ℕ) (b : Branch) where
-  abbrev pub holds : Term × Move → Bool
+module _ (split : Bool) (n : ℕ) (b : Branch) (l : Constraint) where
+  abbrev holds : Term × Move → Bool
   holds m = applies (known b) (m .1)
 
-  -- the first move of one constraint
-  unfoldable pub ownFirst : Bool → Constraint → Option (Term × Move)
-  ownFirst split l = first holds (offers split n b l)
+  abbrev end : ℕ
+  end = spanOf split l .1
 
-  -- and of its rules from j on
-  unfoldable pub rulesFrom : Constraint → ℕ → ℕ → Option (Term × Move)
-  rulesFrom l j end = first holds (gather (λ (k : ℕ). map (moveAt b l k) (positions n b l k)) (upFrom j (end - j)))
+  abbrev moves : ℕ → List (Term × Move)
+  moves j = map (moveAt b l j) (positions n b l j)
 
-  -- at the first rule it is all that the constraint offers
-  pub rules-begin : (split : Bool) (l : Constraint) → ownFirst split l ≡ rulesFrom l (spanOf split l .0) (spanOf split l .1)
-  unfolding ownFirst rulesFrom
-  rules-begin split l = ap (first holds) (offered split n b l)
+  unfoldable pub rulesFrom : ℕ → Option (Term × Move)
+  rulesFrom j = first holds (gather moves (upFrom j (end - j)))
 
-  module _ (l : Constraint) (j end : ℕ) where
-    abbrev here : List (Term × Move)
-    here = map (moveAt b l j) (positions n b l j)
-
+  module _ (j : ℕ) where
     abbrev after : List (Term × Move)
-    after = gather (λ (k : ℕ). map (moveAt b l k) (positions n b l k)) (upFrom (j + 1) (end - (j + 1)))
+    after = gather moves (upFrom (j + 1) (end - (j + 1)))
 
-    -- those of rule j come first
-    rules-more : j < end → rulesFrom l j end ≡ first holds (here ++ after)
+    rules-more : j < end → rulesFrom j ≡ first holds (moves j ++ after)
     unfolding rulesFrom
-    rules-more h = ap (λ (ks : List ℕ). first holds (gather (λ (k : ℕ). map (moveAt b l k) (positions n b l k)) ks)) (up-more j end h)
+    rules-more h = ap (λ (ks : List ℕ). first holds (gather moves ks)) (up-more j end h)
 
-    -- and the first of them is that at the rule's first position
-    by-rule : first holds here ≡ Option·map (moveAt b l j) (firstAt n b l j)
-    by-rule = first-map holds (moveAt b l j) (positions n b l j)
+    -- a rule's first move is that at its first position
+    by-rule : (o : Option ℕ) → firstAt n b l j ≡ o → first holds (moves j) ≡ Option·map (moveAt b l j) o
+    by-rule o e = first-map holds (moveAt b l j) (positions n b l j) ∙ ap (Option·map (moveAt b l j)) e
 
-    pub rule-hit : j < end → (p : ℕ) → firstAt n b l j ≡ some p → rulesFrom l j end ≡ some (moveAt b l j p)
-    rule-hit h p e = rules-more h ∙ first-left holds here after (moveAt b l j p) (by-rule ∙ ap (Option·map (moveAt b l j)) e)
+    pub rule-hit : j < end → (p : ℕ) → firstAt n b l j ≡ some p → rulesFrom j ≡ some (moveAt b l j p)
+    rule-hit h p e = rules-more h ∙ first-left holds (moves j) after (moveAt b l j p) (by-rule (some p) e)
 
-    pub rule-miss : j < end → firstAt n b l j ≡ none → rulesFrom l j end ≡ rulesFrom l (j + 1) end
+    pub rule-miss : j < end → firstAt n b l j ≡ none → rulesFrom j ≡ rulesFrom (j + 1)
     unfolding rulesFrom
-    rule-miss h e = rules-more h ∙ first-none-app holds here after (by-rule ∙ ap (Option·map (moveAt b l j)) e)
+    rule-miss h e = rules-more h ∙ first-none-app holds (moves j) after (by-rule none e)
 
-    pub rules-done : end ≤ j → rulesFrom l j end ≡ none
+    pub rules-done : end ≤ j → rulesFrom j ≡ none
     unfolding rulesFrom
-    rules-done h = ap (λ (ks : List ℕ). first holds (gather (λ (k : ℕ). map (moveAt b l k) (positions n b l k)) ks)) (up-done j end h)
+    rules-done h = ap (λ (ks : List ℕ). first holds (gather moves ks)) (up-done j end h)
 
--- ---- constraints: the same from constraint i on
+-- ---- constraints from constraint i on
 
 module _ (split : Bool) (n : ℕ) (ls : List Constraint) (b : Branch) where
   abbrev passed : Candidate → Bool
   passed c = applies (known b) (c .move)
 
-  -- the first place from constraint i on
   unfoldable pub constraintsFrom : ℕ → Option Candidate
   constraintsFrom i = first passed (candidates (offers split n b) i (drop i ls))
 
@@ -107,11 +89,11 @@ module _ (split : Bool) (n : ℕ) (ls : List Constraint) (b : Branch) where
   constraints-done i h = ap (λ (xs : List Constraint). first passed (candidates (offers split n b) i xs)) (drop-of-length-le ls h)
 
   module _ (i : ℕ) where
-    abbrev candidate : Term × Move → Candidate
-    candidate m = record { constraint = i; concerned = m .0; move = m .1 }
-
     abbrev this : Constraint
     this = getD ls i noConstraint
+
+    abbrev candidate : Term × Move → Candidate
+    candidate m = record { constraint = i; concerned = m .0; move = m .1 }
 
     abbrev own : List Candidate
     own = map candidate (offers split n b this)
@@ -119,20 +101,18 @@ module _ (split : Bool) (n : ℕ) (ls : List Constraint) (b : Branch) where
     abbrev others : List Candidate
     others = candidates (offers split n b) (suc i) (drop (suc i) ls)
 
-    -- those of constraint i come first
     constraints-more : i < length ls → constraintsFrom i ≡ first passed (own ++ others)
     unfolding constraintsFrom
     constraints-more h = ap (λ (xs : List Constraint). first passed (candidates (offers split n b) i xs)) (drop-cons ls i noConstraint h)
 
-    -- and the first of them is the constraint's first move
-    by-constraint : first passed own ≡ Option·map candidate (ownFirst n b split this)
-    unfolding ownFirst
-    by-constraint = first-map passed candidate (offers split n b this)
+    -- a constraint's first candidate is its first move, from its first rule on
+    by-constraint : (o : Option (Term × Move)) → rulesFrom split n b this (spanOf split this .0) ≡ o → first passed own ≡ Option·map candidate o
+    unfolding rulesFrom
+    by-constraint o e = first-map passed candidate (offers split n b this) ∙ ap (Option·map candidate) (ap (first (holds split n b this)) (offered split n b this) ∙ e)
 
-    pub constraint-hit : i < length ls → (m : Term × Move) → ownFirst n b split this ≡ some m → constraintsFrom i ≡ some (candidate m)
-    constraint-hit h m e = constraints-more h ∙ first-left passed own others (candidate m) (by-constraint ∙ ap (Option·map candidate) e)
+    pub constraint-hit : i < length ls → (m : Term × Move) → rulesFrom split n b this (spanOf split this .0) ≡ some m → constraintsFrom i ≡ some (candidate m)
+    constraint-hit h m e = constraints-more h ∙ first-left passed own others (candidate m) (by-constraint (some m) e)
 
-    pub constraint-miss : i < length ls → ownFirst n b split this ≡ none → constraintsFrom i ≡ constraintsFrom (i + 1)
+    pub constraint-miss : i < length ls → rulesFrom split n b this (spanOf split this .0) ≡ none → constraintsFrom i ≡ constraintsFrom (i + 1)
     unfolding constraintsFrom
-    constraint-miss h e =
-        constraints-more h ∙ first-none-app passed own others (by-constraint ∙ ap (Option·map candidate) e) ∙ ap (λ (k : ℕ). first passed (candidates (offers split n b) k (drop k ls))) (sym (add-one i))
+    constraint-miss h e = constraints-more h ∙ first-none-app passed own others (by-constraint none e) ∙ ap (λ (k : ℕ). first passed (candidates (offers split n b) k (drop k ls))) (sym (add-one i))

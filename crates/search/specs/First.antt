@@ -1,4 +1,4 @@
--- What a search answers, and that it is the first place of the calculus.
+-- What a search is given, and what it answers: the first place of the calculus where a rule applies.
 use mathlib.Core.Path.{_≡_}
 use mathlib.Core.Bool.{Bool, cond}
 use mathlib.Core.Option.{Option, none, some}
@@ -20,47 +20,48 @@ use Rattle.constraints.specs.Decoded.{decoded, Handled}
 use Rattle.places.specs.Places.{spanOf, InSpan, moveAt, entriesOf, offers}
 use Rattle.search.specs.declared.Found.{Found}
 
--- what is prepared once a run: the table, the numbers 0 to 63, and by constraint its entries as bits
+-- The word of each constraint has its entries as bits.
 pub record ListedOf (ls : List Constraint) (listed : List ℕ) : Type 0 where
   pub long : length listed ≡ 48
   pub bits : (i : ℕ) → i < length ls → (h : ℕ) → bit (getD listed i 0) h ≡ any (λ (e : Term). eqb (e .index) h) (entriesOf (getD ls i noConstraint))
   pub small : (i : ℕ) → i < length ls → getD listed i 0 < 2 ^ 64
 
+-- What is prepared once a run: the table, the numbers 0 to 63, and the words of the constraints.
 pub record Prepared (bs numbers : List ℕ) (totals : Totals) (offsets witnesses listed : List ℕ) : Type 0 where
   pub tabled : Tabled bs totals offsets witnesses
   pub numbers-are : numbers ≡ upFrom 0 64
   pub listed-are : ListedOf (constraintsOf (read bs)) listed
 
--- A place by numbers: the constraint, the rule, and the position, for rule 19 an entry's number and for any other the root.
+-- A place by numbers. The position is an entry's number for rule 19, and the root for any other rule.
 pub record Spot : Type 0 where
   pub constraint : ℕ
   pub rule : ℕ
   pub position : ℕ
 
--- The calculus's candidate at a place.
+-- What the calculus tries at a place.
 abbrev pub candidateAt : List Constraint → Branch → Spot → Candidate
 candidateAt ls b p = record { constraint = p .constraint; concerned = moveAt b (getD ls (p .constraint) noConstraint) (p .rule) (p .position) .0; move = moveAt b (getD ls (p .constraint) noConstraint) (p .rule) (p .position) .1 }
 
--- The candidate that a place tells. Rule 0 tells that there is none.
+-- The candidate at a place. Rule 0 says that there is none.
 abbrev pub found : List Constraint → Branch → Spot → Option Candidate
 found ls b p = cond (eqb (p .rule) 0) none (some (candidateAt ls b p))
 
--- A place is one of the problem's: its constraint has the rule, as a propagation rule or as a split, and the rule has the position.
+-- The place is there: its constraint is one of the problem's, and its rule is a propagation rule, or the split, of that constraint. Its position is the number of an entry, or of the term concerned.
 pub record Within (split : Bool) (n : ℕ) (ls : List Constraint) (b : Branch) (p : Spot) : Type 0 where
   pub in-problem : p .constraint < length ls
   pub of-rule : InSpan (spanOf split (getD ls (p .constraint) noConstraint)) (p .rule)
   pub of-entry : p .rule ≡ 19 → p .position < length (entriesOf (getD ls (p .constraint) noConstraint))
   pub of-root : ¬ (p .rule ≡ 19) → (p .position < 64) × (moveAt b (getD ls (p .constraint) noConstraint) (p .rule) (p .position) .0 ≡ term (p .position))
 
--- The first candidate that applies, of the propagation rules or of the splits.
+-- The first candidate that applies: of the propagation rules, or of the splits.
 unfoldable pub firstPlace : Bool → ℕ → List Constraint → Branch → Option Candidate
 firstPlace split n ls b = first (λ (c : Candidate). applies (known b) (c .move)) (candidates (offers split n b) 0 ls)
 
--- The place of an answer, at a position.
+-- The place of an answer, with a position.
 abbrev pub spot : Found → ℕ → Spot
 spot r position = record { constraint = r .number; rule = r .rule; position = position }
 
--- An answer tells a place: the root is the one concerned there, and the constraint is the one decoded, with its entries.
+-- The answer says what is at its place: the term concerned, which is a root below n, and the constraint as decoded. It has entries that the code handles.
 pub record Located (split : Bool) (n : ℕ) (ls : List Constraint) (b : Branch) (r : Found) (position : ℕ) : Type 0 where
   pub within : Within split n ls b (spot r position)
   pub concerns : moveAt b (getD ls (r .number) noConstraint) (r .rule) position .0 ≡ term (r .root .0)
@@ -70,11 +71,11 @@ pub record Located (split : Bool) (n : ℕ) (ls : List Constraint) (b : Branch) 
   pub opened : getD ls (r .number) noConstraint ≡ decoded (map term entries) (r .constraint)
   pub handled : Handled entries (r .constraint)
 
--- The answer where nothing is found.
+-- The answer where no rule applies.
 abbrev pub nowhere : Found
 nowhere = record { number = 0; rule = 0; root = record { 0 = 0 }; constraint = Same (record { 0 = 0 }) (record { 0 = 0 }) }
 
--- The answer is the first place, at some position, or tells that there is none.
+-- The answer is the first place, with some position. If there is none, it is `nowhere`.
 pub record Finds (split : Bool) (n : ℕ) (ls : List Constraint) (b : Branch) (r : Found) : Type 0 where
   pub position : ℕ
   pub first-is : firstPlace split n ls b ≡ found ls b (spot r position)

@@ -15,7 +15,7 @@ ghost use Rattle.problem.specs.Table.{Tabled, constraintsOf};
 ghost use Rattle.rules.specs.Words.{Lent, Shown};
 ghost use Rattle.search.specs.First.{ListedOf, Prepared, Finds};
 
-// What a search answers: the constraint's number, the rule, the root concerned, and the constraint itself. Rule 0: nothing is found.
+// What a search answers: the number of a constraint, the rule, the root concerned, and the constraint itself. Rule 0 says that no rule applies.
 pub struct Found {
     pub number: u8,
     pub rule: u8,
@@ -23,7 +23,7 @@ pub struct Found {
     pub constraint: Constraint,
 }
 
-// By constraint, its entries as bits. The numbers are 0 to 63.
+// The entries of each constraint as the bits of a word. The numbers are 0 to 63.
 pub fn listings<'a>(
     problem: &'a [u8],
     numbers: &'a [u8],
@@ -46,7 +46,7 @@ pub fn listings<'a>(
     listed
 }
 
-// The first place where a propagation rule applies, or a split. The numbers are 0 to 63, and by constraint its entries are listed as bits.
+// The first place where a propagation rule applies, or, with `split`, where a split does. The numbers are 0 to 63, and `listed` is what `listings` answers.
 pub fn search<'a>(
     problem: &'a [u8],
     numbers: &'a [u8],
