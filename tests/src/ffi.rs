@@ -2,15 +2,6 @@
 //! looked at afterwards.
 
 extern "C" {
-    fn fuselinda_run(
-        problem: *const u8,
-        n: usize,
-        budget: u64,
-        forms: *mut u8,
-        fn_: usize,
-        trace: *mut u8,
-        tn: usize,
-    ) -> u64;
     fn fuselinda_check(problem: *const u8, n: usize, setting: *const u8, m: usize) -> u64;
 }
 
@@ -79,23 +70,52 @@ impl Lent {
     }
 }
 
-/// The library's run on the caller's own buffers, with nothing around it (for
+/// A run on the caller's own buffers.
+pub type Run = fn(&[u8], u64, &mut [u8], &mut [u8]) -> u64;
+
+/// A library's run, which is linked as `$symbol`, with nothing around it (for
 /// the benchmark).
-pub fn run_bare(problem: &[u8], budget: u64, forms: &mut [u8], trace: &mut [u8]) -> u64 {
-    // SAFETY: each pointer is that of a live slice, with its length; the two
-    // buffers written to are borrowed mutably, so none overlaps another.
-    unsafe {
-        fuselinda_run(
-            problem.as_ptr(),
-            problem.len(),
-            budget,
-            forms.as_mut_ptr(),
-            forms.len(),
-            trace.as_mut_ptr(),
-            trace.len(),
-        )
-    }
+macro_rules! bare {
+    ($name:ident, $symbol:ident) => {
+        pub fn $name(problem: &[u8], budget: u64, forms: &mut [u8], trace: &mut [u8]) -> u64 {
+            extern "C" {
+                fn $symbol(
+                    problem: *const u8,
+                    n: usize,
+                    budget: u64,
+                    forms: *mut u8,
+                    fn_: usize,
+                    trace: *mut u8,
+                    tn: usize,
+                ) -> u64;
+            }
+            // SAFETY: each pointer is that of a live slice, with its length; the
+            // two buffers written to are borrowed mutably, so none overlaps
+            // another.
+            unsafe {
+                $symbol(
+                    problem.as_ptr(),
+                    problem.len(),
+                    budget,
+                    forms.as_mut_ptr(),
+                    forms.len(),
+                    trace.as_mut_ptr(),
+                    trace.len(),
+                )
+            }
+        }
+    };
 }
+
+bare!(run_bare, fuselinda_run);
+#[cfg(before)]
+bare!(run_before, before_fuselinda_run);
+
+/// The run of the library of another commit, if it is linked (see build.rs).
+#[cfg(before)]
+pub const BEFORE: Option<Run> = Some(run_before);
+#[cfg(not(before))]
+pub const BEFORE: Option<Run> = None;
 
 /// The library's run between guards. An error says what it touched that it
 /// was not lent, or was only lent to read.

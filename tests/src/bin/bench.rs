@@ -1,16 +1,23 @@
 //! A benchmark: the separately written solver and the library on a fixed set
 //! of problems, in one process, taking turns. Not a test.
 //!
+//! `--problems FOLDER` adds the problems of a folder. tests/bench-beside builds
+//! it with the library of another commit, which then takes its turn as well.
+//!
 //! Times are of the thread's clock. By the wall clock, on a machine shared with
 //! others, the slower of the two is made to look slower still: its batches are
 //! longer, and so are interrupted more often.
 
-use separate::generate::Draft;
+use separate::ffi::Run;
+use separate::generate::{Draft, Rng};
 use separate::{answer, ffi, sheet::Sheet, solver};
 use std::hint::black_box;
+use std::path::Path;
 
 const ROUNDS: usize = 41;
 const BUDGET: u64 = 10_000;
+const FORMS: usize = 4_000_000;
+const TRACE: usize = 4 * BUDGET as usize;
 
 fn letters(first: u8, count: usize) -> Vec<u8> {
     (first..first + count as u8).collect()
@@ -194,87 +201,92 @@ fn witnesses(count: usize, idle: usize) -> Draft {
     d
 }
 
-fn median(mut all: Vec<f64>) -> f64 {
-    all.sort_by(f64::total_cmp);
-    all[all.len() / 2]
+/// Two names in intervals, of which one is within the other: the first name is
+/// at an end of the wider.
+fn intervals(terms: usize) -> Draft {
+    let constants = terms - 2;
+    let mut d = draft(constants, 2, 3);
+    let x = constants as u8;
+    d.lines = vec![
+        vec![12, 0, 0, x - 1],
+        vec![12, 1, 1, x - 2],
+        vec![1, x, 0],
+        vec![1, x + 1, 1],
+        vec![4, x, x + 1],
+        vec![10, 0, 1, 2],
+        vec![2, x, 2],
+    ];
+    d
 }
 
-/// A problem as it was measured; times are nanoseconds a call.
-struct Row {
-    name: &'static str,
-    terms: usize,
-    sets: usize,
-    lines: usize,
-    word: u64,
-    separate: f64,
-    library: f64,
-}
-
-impl Row {
-    fn steps(&self) -> f64 {
-        answer::steps(self.word).max(1) as f64
-    }
-}
-
-/// Medians of both solvers, which take turns.
-fn measure(name: &'static str, draft: &Draft, forms: &mut [u8], trace: &mut [u8]) -> Row {
-    let bytes = draft.bytes();
-    let Ok(sheet) = Sheet::read(&bytes) else { panic!("{name} is refused") };
-    let word = solver::run(&bytes, BUDGET, forms, trace);
-    assert_eq!(word, ffi::run_bare(&bytes, BUDGET, forms, trace), "{name}");
-
-    let mut batch = |who: usize, calls: usize| -> f64 {
-        let start = ffi::thread_time();
-        for _ in 0..calls {
-            let problem = black_box(&bytes[..]);
-            black_box(if who == 0 {
-                solver::run(problem, BUDGET, forms, trace)
-            } else {
-                ffi::run_bare(problem, BUDGET, forms, trace)
-            });
+/// Nearly as many bytes as a problem may have: 46 lists of 80 entries, out of
+/// order, each entry several times; one name is listed, another in a set.
+fn long_lists() -> Draft {
+    let mut d = draft(30, 2, 8);
+    let mut rng = Rng::new(46);
+    for n in 0..46 {
+        let mut entries: Vec<u8> = (0..80).map(|at| (n % 8 * 3 + at) % 30).collect();
+        if n == 7 {
+            entries[70..].fill(30);
         }
-        (ffi::thread_time() - start) as f64
-    };
-    // Calls in a batch, so that a batch of either takes a millisecond.
-    let calls = [0, 1].map(|who| {
-        let mut calls = 1;
-        while batch(who, calls) < 1e6 {
-            calls *= 2;
-        }
-        calls
-    });
-    let mut times = [Vec::new(), Vec::new()];
-    for round in 0..ROUNDS {
-        for turn in 0..2 {
-            let who = (round + turn) % 2;
-            times[who].push(batch(who, calls[who]) / calls[who] as f64);
-        }
+        rng.shuffle(&mut entries);
+        d.lines.push([&[11, n % 8, 80], &entries[..]].concat());
     }
-    let [separate, library] = times.map(median);
-    Row {
-        name,
-        terms: sheet.terms,
-        sets: sheet.sets.len(),
-        lines: sheet.lines.len(),
-        word,
-        separate,
-        library,
-    }
+    d.lines.push(vec![1, 31, 0]);
+    d
 }
 
-fn main() {
-    let mut forms = vec![0u8; 4_000_000];
-    let mut trace = vec![0u8; 4 * BUDGET as usize];
-    let mut rows = |problems: Vec<(&'static str, Draft)>| -> Vec<Row> {
-        problems.iter().map(|(name, draft)| measure(name, draft, &mut forms, &mut trace)).collect()
-    };
+/// Names at the top of a chain: A and B make up F, F and C G, G and D H. A is
+/// apart from E, which D is within.
+fn union_chain(names: usize, idle: usize) -> Draft {
+    let mut d = draft(idle, names, 8);
+    d.lines = vec![vec![7, 6, 3, 7], vec![7, 5, 2, 6], vec![7, 0, 1, 5], vec![8, 0, 4], vec![9, 3, 4]];
+    for t in 0..names {
+        d.lines.push(vec![1, (idle + t) as u8, 7]);
+    }
+    d
+}
 
-    println!(
-        "{:26} {:>2} {:>1} {:>5} {:>8} {:>5} {:>5} | {:>11} {:>11} | {:>9} {:>9} | {:>6}",
-        "problem", "T", "S", "lines", "verdict", "steps", "forms",
-        "separate ns", "library ns", "sep/step", "lib/step", "lib÷sep"
-    );
-    let all = rows(vec![
+/// As many terms, sets and lines as a problem may have; the budget cuts its
+/// tree.
+fn big() -> Draft {
+    let mut d = draft(38, 24, 8);
+    let name = |at: u8| 38 + at;
+    d.lines = vec![
+        vec![12, 0, 0, 16],
+        vec![12, 1, 12, 30],
+        vec![7, 0, 1, 2],
+        vec![10, 0, 1, 3],
+        [vec![11, 4, 9, 0, 10, 20, 30, 35], (0..4).map(name).collect()].concat(),
+        vec![9, 5, 2],
+        vec![8, 5, 3],
+        vec![7, 5, 4, 6],
+        [vec![11, 7, 8], (4..12).map(name).collect()].concat(),
+        vec![6, 5, 0],
+        vec![6, 7, 4],
+        vec![9, 7, 6],
+    ];
+    for (names, set) in [(0..4, 2), (12..18, 6), (18..22, 7), (23..24, 3)] {
+        d.lines.extend(names.map(|at| vec![1, name(at), set]));
+    }
+    d.lines.push(vec![2, name(22), 2]);
+    d.lines.extend((0..19).map(|at| vec![4, name(at), name(at + 1)]));
+    d.lines.push(vec![4, name(22), name(23)]);
+    d
+}
+
+struct Problem {
+    name: String,
+    bytes: Vec<u8>,
+}
+
+fn problem(name: &str, draft: Draft) -> Problem {
+    Problem { name: name.into(), bytes: draft.bytes() }
+}
+
+/// The benchmark's own set.
+fn own() -> Vec<Problem> {
+    let rows = vec![
         ("C1", c1()),
         ("C10", c10()),
         ("C11", c11()),
@@ -301,43 +313,304 @@ fn main() {
         ("7 names on 6 places", crowd(6, 7, 64)),
         ("dead unions of 11 names", dead_unions(11, 0)),
         ("dead unions of 11 names", dead_unions(11, 51)),
-    ]);
-    for row in &all {
-        println!(
-            "{:26} {:>2} {:>1} {:>5} {:>8} {:>5} {:>5} | {:>11.0} {:>11.0} | {:>9.1} {:>9.1} | {:>6.2}",
-            row.name,
-            row.terms,
-            row.sets,
-            row.lines,
-            answer::NAMES[answer::verdict(row.word) as usize],
-            answer::steps(row.word),
-            answer::forms(row.word),
-            row.separate,
-            row.library,
-            row.separate / row.steps(),
-            row.library / row.steps(),
-            row.library / row.separate
-        );
-    }
-    let mean = all.iter().map(|row| (row.library / row.separate).ln()).sum::<f64>() / all.len() as f64;
-    println!("geometric mean of library ÷ separate: {:.2}", mean.exp());
+        ("two names in intervals", intervals(8)),
+        ("two names in intervals", intervals(16)),
+        ("two names in intervals", intervals(32)),
+        ("two names in intervals", intervals(64)),
+        ("46 lists of 80 entries", long_lists()),
+        ("6 names, chain of unions", union_chain(6, 0)),
+        ("6 names, chain of unions", union_chain(6, 58)),
+        ("big, spent", big()),
+    ];
+    rows.into_iter().map(|(name, draft)| problem(name, draft)).collect()
+}
 
-    println!("\nhow the time of a step grows, in nanoseconds (separate, library)");
-    let grow = |what: &str, name: &str, rows: Vec<Row>, of: fn(&Row) -> usize| {
-        print!("with {what:12} {name:24}");
-        for row in rows {
-            print!(" | {:>5}: {:>5.0} {:>5.0}", of(&row), row.separate / row.steps(), row.library / row.steps());
+/// The problems of a folder, by name: its files *.bin and *.problem.
+fn problems_in(folder: &Path) -> std::io::Result<Vec<Problem>> {
+    let mut all = Vec::new();
+    for entry in std::fs::read_dir(folder)? {
+        let path = entry?.path();
+        if path.extension().is_some_and(|end| end == "bin" || end == "problem") {
+            let name = path.file_stem().unwrap_or_default().to_string_lossy().into();
+            all.push(Problem { name, bytes: std::fs::read(&path)? });
+        }
+    }
+    all.sort_by(|one, other| one.name.cmp(&other.name));
+    Ok(all)
+}
+
+/// Problems of which one number grows.
+struct Series {
+    what: &'static str,
+    of: fn(&Row) -> usize,
+    problems: Vec<Problem>,
+}
+
+fn series() -> Vec<Series> {
+    let sizes = [8, 16, 32, 64];
+    let counts = [4, 7, 10, 13];
+    let terms = |row: &Row| row.terms;
+    let steps = |row: &Row| answer::steps(row.word) as usize;
+    let new = |what, name, of, drafts: [Draft; 4]| {
+        Series { what, of, problems: drafts.map(|draft| problem(name, draft)).into() }
+    };
+    vec![
+        new("terms", "climb, 48 lines", terms, sizes.map(|t| climb(t, false))),
+        new("terms", "mixed, 48 lines", terms, sizes.map(mixed)),
+        new("terms", "7 names in a union", terms, sizes.map(|t| unions(7, t - 7))),
+        new("terms", "two names in intervals", terms, sizes.map(intervals)),
+        new("constraints", "7 names in a union", |row| row.lines, [8, 12, 24, 48].map(padded)),
+        new("steps", "names in a union, 13 T", steps, counts.map(|n| unions(n, 13 - n))),
+        new("steps", "witnesses, 13 T", steps, counts.map(|n| witnesses(n, 13 - n))),
+    ]
+}
+
+fn median(mut all: Vec<f64>) -> f64 {
+    all.sort_by(f64::total_cmp);
+    all[all.len() / 2]
+}
+
+/// A problem as it was measured.
+struct Row {
+    name: String,
+    bytes: usize,
+    terms: usize,
+    sets: usize,
+    lines: usize,
+    word: u64,
+    /// Nanoseconds a call, of each solver.
+    times: Vec<f64>,
+}
+
+impl Row {
+    /// Nanoseconds a step, of each solver.
+    fn a_step(&self) -> Vec<f64> {
+        let steps = answer::steps(self.word).max(1) as f64;
+        self.times.iter().map(|time| time / steps).collect()
+    }
+
+    /// One solver's time, divided by another's.
+    fn ratio(&self, who: usize, other: usize) -> f64 {
+        self.times[who] / self.times[other]
+    }
+
+    /// Rows of one shape differ in the number at the end of their names, or
+    /// in their terms only.
+    fn shape(&self) -> &str {
+        self.name.trim_end_matches(|letter: char| letter.is_ascii_digit())
+    }
+}
+
+/// The solvers that take turns: the separate one first, the library as it is
+/// now last, and between them the library of another commit, if it is linked.
+struct Bench {
+    names: Vec<&'static str>,
+    runs: Vec<Run>,
+    forms: Vec<u8>,
+    trace: Vec<u8>,
+}
+
+impl Bench {
+    fn new() -> Bench {
+        let (mut names, mut runs) = (vec!["separate", "now"], vec![solver::run as Run, ffi::run_bare]);
+        if let Some(before) = ffi::BEFORE {
+            names.insert(1, "before");
+            runs.insert(1, before);
+        }
+        Bench { names, runs, forms: vec![0; FORMS], trace: vec![0; TRACE] }
+    }
+
+    fn now(&self) -> usize {
+        self.runs.len() - 1
+    }
+
+    /// Whether the problem is one, and all answer the same: the word, and every
+    /// byte of both buffers. If not, it says so.
+    fn agree(&self, problem: &Problem) -> bool {
+        if let Err(number) = Sheet::read(&problem.bytes) {
+            eprintln!("{}: refused with {number}", problem.name);
+            return false;
+        }
+        let answer = |run: Run| {
+            let (mut forms, mut trace) = (vec![0xA5; FORMS], vec![0xA5; TRACE]);
+            (run(&problem.bytes, BUDGET, &mut forms, &mut trace), forms, trace)
+        };
+        let wanted = answer(self.runs[0]);
+        let mut agreed = true;
+        for who in 1..self.runs.len() {
+            let given = answer(self.runs[who]);
+            let parts = [
+                ("word", given.0 == wanted.0),
+                ("forms", given.1 == wanted.1),
+                ("trace", given.2 == wanted.2),
+            ];
+            for (part, _) in parts.iter().filter(|(_, same)| !same) {
+                eprintln!("{}: {} and {} differ in the {part}", problem.name, self.names[0], self.names[who]);
+                agreed = false;
+            }
+        }
+        agreed
+    }
+
+    /// The time of some calls of one solver, in nanoseconds of the thread's clock.
+    fn batch(&mut self, problem: &Problem, who: usize, calls: usize) -> f64 {
+        let run = self.runs[who];
+        let start = ffi::thread_time();
+        for _ in 0..calls {
+            black_box(run(black_box(&problem.bytes), BUDGET, &mut self.forms, &mut self.trace));
+        }
+        (ffi::thread_time() - start) as f64
+    }
+
+    /// Medians of the solvers, which take turns.
+    fn measure(&mut self, problem: &Problem) -> Row {
+        let sheet = Sheet::read(&problem.bytes).expect("a problem that they agree on");
+        let word = solver::run(&problem.bytes, BUDGET, &mut self.forms, &mut self.trace);
+        let count = self.runs.len();
+        // Calls in a batch, so that a batch of each takes a millisecond.
+        let mut calls = vec![1; count];
+        for who in 0..count {
+            while self.batch(problem, who, calls[who]) < 1e6 {
+                calls[who] *= 2;
+            }
+        }
+        let mut times = vec![Vec::new(); count];
+        for round in 0..ROUNDS {
+            for turn in 0..count {
+                let who = (round + turn) % count;
+                times[who].push(self.batch(problem, who, calls[who]) / calls[who] as f64);
+            }
+        }
+        Row {
+            name: problem.name.clone(),
+            bytes: problem.bytes.len(),
+            terms: sheet.terms,
+            sets: sheet.sets.len(),
+            lines: sheet.lines.len(),
+            word,
+            times: times.into_iter().map(median).collect(),
+        }
+    }
+
+    /// Measures problems and prints a row of each.
+    fn table(&mut self, problems: &[Problem]) -> Vec<Row> {
+        print!("{:26} {:>2} {:>1} {:>5} {:>8} {:>5} {:>5} |", "problem", "T", "S", "lines", "verdict", "steps", "forms");
+        for unit in [" ns", "/step"] {
+            for name in &self.names {
+                print!(" {:>13}", format!("{name}{unit}"));
+            }
+            print!(" |");
+        }
+        print!(" {:>7}", "now÷sep");
+        if ffi::BEFORE.is_some() {
+            print!(" {:>7}", "bef÷now");
         }
         println!();
-    };
-    let mut series = |what: &str, name: &'static str, of: fn(&Row) -> usize, drafts: Vec<Draft>| {
-        grow(what, name, rows(drafts.into_iter().map(|draft| (name, draft)).collect()), of)
-    };
-    let sizes = [8, 16, 32, 64];
-    series("terms", "climb, 48 lines", |row| row.terms, sizes.map(|t| climb(t, false)).into());
-    series("terms", "mixed, 48 lines", |row| row.terms, sizes.map(mixed).into());
-    series("terms", "7 names in a union", |row| row.terms, sizes.map(|t| unions(7, t - 7)).into());
-    series("constraints", "7 names in a union", |row| row.lines, [8, 12, 24, 48].map(padded).into());
-    series("steps", "names in a union, 13 T", |row| row.steps() as usize, [4, 7, 10, 13].map(|n| unions(n, 13 - n)).into());
-    series("steps", "witnesses, 13 T", |row| row.steps() as usize, [4, 7, 10, 13].map(|n| witnesses(n, 13 - n)).into());
+        let mut rows = Vec::new();
+        for problem in problems {
+            let row = self.measure(problem);
+            print!(
+                "{:26} {:>2} {:>1} {:>5} {:>8} {:>5} {:>5} |",
+                row.name,
+                row.terms,
+                row.sets,
+                row.lines,
+                answer::NAMES[answer::verdict(row.word) as usize],
+                answer::steps(row.word),
+                answer::forms(row.word)
+            );
+            for time in &row.times {
+                print!(" {time:>13.0}");
+            }
+            print!(" |");
+            for time in row.a_step() {
+                print!(" {time:>13.1}");
+            }
+            print!(" | {:>7.2}", row.ratio(self.now(), 0));
+            if ffi::BEFORE.is_some() {
+                print!(" {:>7.2}", row.ratio(1, self.now()));
+            }
+            println!();
+            rows.push(row);
+        }
+        rows
+    }
+
+    /// What the rows come to.
+    fn summary(&self, rows: &[Row]) {
+        let mean = |who, other| {
+            let logs: f64 = rows.iter().map(|row| row.ratio(who, other).ln()).sum();
+            (logs / rows.len() as f64).exp()
+        };
+        println!("geometric mean of now ÷ separate: {:.2}", mean(self.now(), 0));
+        if ffi::BEFORE.is_some() {
+            let ratio = |row: &Row| row.ratio(1, self.now());
+            let lowest = rows.iter().min_by(|one, other| ratio(one).total_cmp(&ratio(other))).expect("a row");
+            println!("geometric mean of before ÷ now: {:.2}", mean(1, self.now()));
+            println!("lowest before ÷ now: {:.2} ({}, {} T)", ratio(lowest), lowest.name, lowest.terms);
+        }
+        let print_each = |what: &str, over: &[f64], under: &[f64]| {
+            print!("{what}:");
+            for who in 0..self.names.len() {
+                print!(" {} {:.2}", self.names[who], over[who] / under[who]);
+            }
+            println!();
+        };
+        for large in rows.iter().filter(|row| row.terms == 64) {
+            for small in rows.iter().filter(|row| row.terms == 8 && row.shape() == large.shape()) {
+                print_each(&format!("a step at 64 terms ÷ at 8, {}", large.shape()), &large.a_step(), &small.a_step());
+            }
+        }
+        let mut least = vec![f64::INFINITY; self.names.len()];
+        for row in rows {
+            for (low, time) in least.iter_mut().zip(row.a_step()) {
+                *low = low.min(time);
+            }
+        }
+        let longest = rows.iter().max_by_key(|row| row.bytes).expect("a row");
+        print_each(&format!("a step of the longest problem ({}) ÷ the least of all", longest.name), &longest.a_step(), &least);
+    }
+}
+
+fn fail(why: &str) -> ! {
+    eprintln!("bench: {why}");
+    std::process::exit(1)
+}
+
+fn main() {
+    let arguments: Vec<String> = std::env::args().skip(1).collect();
+    let mut sets = vec![own()];
+    match &arguments[..] {
+        [] => {}
+        [flag, folder] if flag == "--problems" => match problems_in(Path::new(folder)) {
+            Ok(problems) if !problems.is_empty() => sets.push(problems),
+            Ok(_) => fail(&format!("no problem in {folder}")),
+            Err(error) => fail(&format!("{folder}: {error}")),
+        },
+        _ => fail("usage: bench [--problems FOLDER]"),
+    }
+    let series = series();
+    let mut bench = Bench::new();
+
+    let all = sets.iter().chain(series.iter().map(|series| &series.problems)).flatten();
+    if all.filter(|problem| !bench.agree(problem)).count() > 0 {
+        fail("nothing was measured");
+    }
+    for set in &sets {
+        let rows = bench.table(set);
+        bench.summary(&rows);
+        println!();
+    }
+    println!("how the time of a step grows, in nanoseconds ({})", bench.names.join(", "));
+    for series in &series {
+        print!("with {:12} {:24}", series.what, series.problems[0].name);
+        for problem in &series.problems {
+            let row = bench.measure(problem);
+            print!(" | {:>5}:", (series.of)(&row));
+            for time in row.a_step() {
+                print!(" {time:>5.0}");
+            }
+        }
+        println!();
+    }
 }
