@@ -1,0 +1,55 @@
+-- Which constraints a search need not look at, and which a step wakes.
+use mathlib.Core.Path.{_≡_}
+use mathlib.Core.Bool.{Bool, true, false, _&&_}
+use mathlib.Core.Option.{none}
+use mathlib.Core.List.{List}
+use Prim.Native.Nat.{ℕ, _+_, _^_, _<_}
+use lib.ListN.{length, getD}
+use lib.Dec.{eqb, ltb}
+use Rattle.calculus.specs.Lists.{any, bit}
+use Rattle.calculus.specs.Terms.{Term}
+use Rattle.calculus.specs.Relations.{Literal, operandOf}
+use Rattle.calculus.specs.Meaning.{Constraint, member, nonmember, same, different, relation, negation, exactly, interval}
+use Rattle.calculus.specs.Branch.{Branch}
+use Rattle.problem.specs.Table.{noConstraint}
+use Rattle.places.specs.Places.{spanOf, InSpan, RuleOf, rowOf, entriesOf, firstAt}
+use Rattle.rules.specs.Rows.{numberOf}
+
+-- no propagation rule of a constraint applies, or no split
+abbrev pub Idle : Bool → ℕ → Branch → Constraint → Type 0
+Idle split n b l = (j : ℕ) → InSpan (spanOf split l) j → firstAt n b l j ≡ none
+
+-- the constraints that are not in a mask are idle
+abbrev pub Quiet : Bool → ℕ → List Constraint → Branch → ℕ → Type 0
+Quiet split n ls b mask = (i : ℕ) → i < length ls → bit mask i ≡ false → Idle split n b (getD ls i noConstraint)
+
+-- rule j of a constraint needs literal k of the class that it concerns
+abbrev pub needs : Constraint → ℕ → ℕ → Bool
+needs (member t A) j k = false
+needs (nonmember t A) j k = false
+needs (same t u) j k = false
+needs (different t u) j k = false
+needs (relation r A B C) j k = any (λ (x : Literal). eqb (numberOf (operandOf (A .index) (B .index) (C .index)) x) k) (rowOf r j .premises)
+needs (negation r A B C w) j k = false
+needs (exactly A es) j k = eqb j 20 && eqb (A .index) k
+needs (interval A x y) j k = eqb j 20 && eqb (A .index) k
+
+-- rule j needs two facts of one class: a merge of two classes can make it apply
+abbrev pub pairs : Constraint → ℕ → Bool
+pairs (member t A) j = false
+pairs (nonmember t A) j = false
+pairs (same t u) j = false
+pairs (different t u) j = true
+pairs (relation r A B C) j = ltb 1 (length (rowOf r j .premises))
+pairs (negation r A B C w) j = false
+pairs (exactly A es) j = false
+pairs (interval A x y) j = false
+
+-- What is prepared once a run. By constraint, its entries as bits; by literal, the constraints that need it, as bits; and last, those that a merge can wake.
+pub record WordsOf (ls : List Constraint) (words : List ℕ) : Type 0 where
+  pub long : length words ≡ 65
+  pub entries : (i : ℕ) → i < length ls → (h : ℕ) → bit (getD words i 0) h ≡ any (λ (e : Term). eqb (e .index) h) (entriesOf (getD ls i noConstraint))
+  pub small : (i : ℕ) → i < length ls → getD words i 0 < 2 ^ 64
+  pub needing : (i : ℕ) → i < length ls → (j k : ℕ) → RuleOf (getD ls i noConstraint) j → needs (getD ls i noConstraint) j k ≡ true → bit (getD words (48 + k) 0) i ≡ true
+  pub paired : (i : ℕ) → i < length ls → (j : ℕ) → RuleOf (getD ls i noConstraint) j → pairs (getD ls i noConstraint) j ≡ true → bit (getD words 64 0) i ≡ true
+  pub low : (k : ℕ) → k < 17 → (i : ℕ) → bit (getD words (48 + k) 0) i ≡ true → i < length ls
