@@ -39,7 +39,7 @@ use Rattle.rules.proofs.TableTests.{row-of}
 use Rattle.rules.proofs.FitLaws.{entries-below}
 use Rattle.step.specs.declared.Act.{Act}
 use Rattle.step.specs.declared.Act.the-variants.{Close}
-use Rattle.step.specs.Acts.{listsOf, noteOf, joinOf, Placed, Somewhere, Acts}
+use Rattle.step.specs.Acts.{listsOf, noteOf, joinOf, Placed, Somewhere, Acts, ActsFor}
 use Rattle.step.proofs.Asserting.{literals-any}
 use Rattle.step.proofs.Acting.{root-own, does-by, close-does, note-does, join-does}
 
@@ -88,10 +88,6 @@ entry-rule j (inr r) n = absurd (n (omega (arith, r .0, r .1)))
 
 pub at-case : {ps : List ℕ} {l m : Constraint} {j h c : ℕ} → l ≡ m → Somewhere ps l j h c → Somewhere ps m j h c
 at-case {ps} {l} {m} {j} {h} {c} e = subst (λ (x : Constraint). Somewhere ps x j h c) e
-
--- a is child c of rule j of l, wherever that concerns root h
-abbrev pub ActsFor : List ℕ → Constraint → (j h c : ℕ) → Act → Type 0
-ActsFor ps l j h c a = (es : List ℕ) (q : ℕ) → Placed ps es l j q h → c < slotsOf (decoded (map term es) l) j → Acts ps (decoded (map term es) l) j q c a
 
 pub by-case : {ps : List ℕ} {l m : Constraint} {j h c : ℕ} {a : Act} → l ≡ m → ActsFor ps m j h c a → ActsFor ps l j h c a
 by-case {ps} {l} {m} {j} {h} {c} {a} e = subst (λ (x : Constraint). ActsFor ps x j h c a) (sym e)
