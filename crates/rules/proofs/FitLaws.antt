@@ -43,7 +43,7 @@ use Rattle.rules.specs.declared.Denial.{Denial}
 use Rattle.rules.specs.declared.Row.{Row as Code}
 use Rattle.rules.specs.declared.Split.{Split}
 use Rattle.rules.specs.Rows.{numbered, sets, HasRow, splitting, numberOf, laid, parted, denying}
-use Rattle.rules.specs.Words.{forcedWord, dividedWord, deniedWord, metWord, LowChild, LowDenial, missed, OfRoots, Listing, Lent, Asked, Shown, Fits}
+use Rattle.rules.specs.Words.{forcedWord, dividedWord, deniedWord, metWord, LowChild, LowDenial, missed, OfRoots, Listing, Lent, Asked, Fits, FitsFor}
 use Rattle.rules.proofs.Listed.{turned}
 use Rattle.rules.proofs.TableTests.{row-of, denied-row, forcedTest, dividedTest, deniedTest}
 use Rattle.rules.proofs.Lowest.{at-one, first-fails, first-map, map-map, first-range, single, one-fits, roots-fits}
@@ -261,7 +261,7 @@ module _ {es : List ℕ} {word j : ℕ} {l m : Coded} (e : l ≡ m) (q : Asked e
   pub in-range : ConstraintIn 64 8 (decoded (map term es) m)
   in-range = subst (λ (x : Coded). ConstraintIn 64 8 (decoded (map term es) x)) e (q .handled .in-range)
 
-  pub fits-right : (ps rows : List ℕ) → Lent ps rows → (w : ℕ) → IsWord ps rows es j m w → (n : ℕ) (b : Branch) → n ≤ 64 → ConstraintIn n 8 (decoded (map term es) l) → Shown b ps rows → Fits n b (decoded (map term es) l) j w
+  pub fits-right : (ps rows : List ℕ) → Lent ps rows → (w : ℕ) → IsWord ps rows es j m w → FitsFor ps rows es l j w
   fits-right ps rows lent w i n b few c s =
       fits-of n b rows es j (s .rows-are) (subst Falls (sym (s .parents-are)) (lent .rooted .falls)) few l (q .handled .entries-are) c (q .of-rule) w
       (subst (λ (x : Coded). IsWord (b .parents) rows es j x w) (sym e) (subst (λ (qs : List ℕ). IsWord qs rows es j m w) (sym (s .parents-are)) i))

@@ -6,18 +6,12 @@ use constraints::Constraint;
 use terms::SetVar;
 use terms::Term;
 ghost use mathlib.Core.Path.{_≡_};
-ghost use mathlib.Core.List.{map};
-ghost use Prim.Native.Nat.{ℕ, _^_, _≤_, _<_};
-ghost use lib.Dec.{eqb};
-ghost use Rattle.calculus.specs.Lists.{Each, any, bit};
-ghost use Rattle.calculus.specs.Terms.{term};
-ghost use Rattle.calculus.specs.Branch.{Branch};
-ghost use Rattle.calculus.specs.Invariants.{ConstraintIn};
+ghost use Prim.Native.Nat.{_<_};
+ghost use Rattle.calculus.specs.Lists.{Each};
 ghost use Rattle.branch.specs.Held.{rootOf};
-ghost use Rattle.constraints.specs.Decoded.{decoded};
 ghost use Rattle.rules.specs.Spans.{Spanned};
 ghost use Rattle.rules.specs.Rows.{sets, numbered, HasRow, HasChild, laid, parted, only, child, literalsOf, countOf, denying};
-ghost use Rattle.rules.specs.Words.{Rooted, Lent, Long, Low, rowAt, LowRow, LowSplit, LowChild, LowDenial, forcedWord, decidedWord, dividedWord, metWord, deniedWord, missed, EntryBits, Listing, Asked, Shown, Fits};
+ghost use Rattle.rules.specs.Words.{Rooted, Lent, Long, Low, rowAt, LowRow, LowSplit, LowChild, LowDenial, forcedWord, decidedWord, dividedWord, metWord, deniedWord, RootBits, missed, EntryBits, Listing, Asked, FitsFor};
 
 // A literal, by its number: k is "in set k", 8 + k is "out of set k".
 pub struct Literal(pub u8);
@@ -145,15 +139,12 @@ pub fn child_of(rule: u8, a: SetVar, b: SetVar, c: SetVar, n: usize) -> Child
     }
     if rule == 12 {
         let s = split_of(a, b, c);
-        let left = s.1;
-        let right = s.2;
         if n == 0 {
-            return alone(Literal(left.0));
+            return alone(Literal(s.1.0));
         }
-        return Child(Literal(8 + left.0), Literal(right.0), Literal(right.0));
+        return Child(Literal(8 + s.1.0), Literal(s.2.0), Literal(s.2.0));
     }
-    let r = row_of(rule, a, b, c);
-    alone(r.2)
+    alone(row_of(rule, a, b, c).2)
 }
 
 // The roots of which a literal is known, as bits.
@@ -204,31 +195,22 @@ pub fn root(parents: &[u8], t: Term) -> Term
     Term(find(parents, t.0 as usize) as u8)
 }
 
-// The same, as a bit.
-fn root_bit(parents: &[u8], t: Term) -> u64
-    requires { ⌜ (t .0 < 64) × Rooted (now parents) ⌝ }
-    ensures { λ r. ⌜ r ≡ 2 ^ rootOf (now (parents .entry)) (t .0) ⌝ }
-{
-    let h = root(parents, t);
-    bit_at(h.0)
-}
-
 // The root of a negation's witness, if its split applies there.
 fn denied(parents: &[u8], rows: &[u64], d: Denial, w: Term) -> u64
     requires { ⌜ (w .0 < 64) × Lent (now parents) (now rows) × LowDenial d ⌝ }
     ensures { λ r. ⌜ r ≡ deniedWord (now (rows .entry)) d (rootOf (now (parents .entry)) (w .0)) ⌝ }
 {
-    root_bit(parents, w) & !met(rows, d.0) & !met(rows, d.1) & !met(rows, d.2)
+    bit_at(root(parents, w).0) & !met(rows, d.0) & !met(rows, d.1) & !met(rows, d.2)
 }
 
 // The roots of the entries' classes.
 pub fn roots(list: &[u8], parents: &[u8]) -> u64
     requires { ⌜ Each (λ e. e < 64) (now list) × Rooted (now parents) ⌝ }
-    ensures { λ r. ⌜ (r < 2 ^ 64) × ((h : ℕ) → bit r h ≡ any (λ e. eqb (rootOf (now (parents .entry)) e) h) (now (list .entry))) ⌝ }
+    ensures { λ r. ⌜ RootBits (now (parents .entry)) (now (list .entry)) r ⌝ }
 {
     let mut found = 0u64;
     for p in 0..list.len() {
-        found = found | root_bit(parents, Term(list[p]));
+        found = found | bit_at(root(parents, Term(list[p])).0);
     }
     found
 }
@@ -279,22 +261,15 @@ fn listing(parents: &[u8], rows: &[u64], list: &[u8], entries: u64, a: SetVar, r
 }
 
 // The roots, as bits, at which a rule of a constraint applies; of rule 19 only that of the first entry at which it does.
-pub fn fitting(
-    parents: &[u8],
-    rows: &[u64],
-    list: &[u8],
-    entries: u64,
-    l: Constraint,
-    rule: u8,
-) -> u64
-    requires { ⌜ Lent (now parents) (now rows) × Asked (now list) entries l rule ⌝ }
-    ensures { λ r. ⌜ ((n : ℕ) (b : Branch) → n ≤ 64 → ConstraintIn n 8 (decoded (map term (now (list .entry))) l) → Shown b (now (parents .entry)) (now (rows .entry)) → Fits n b (decoded (map term (now (list .entry))) l) rule r) ⌝ }
+pub fn fitting(parents: &[u8], rows: &[u64], list: &[u8], word: u64, l: Constraint, rule: u8) -> u64
+    requires { ⌜ Lent (now parents) (now rows) × Asked (now list) word l rule ⌝ }
+    ensures { λ r. ⌜ FitsFor (now (parents .entry)) (now (rows .entry)) (now (list .entry)) l rule r ⌝ }
 {
     match l {
-        Constraint::Member(t, a) => root_bit(parents, t) & !of(rows, Literal(a.0)),
-        Constraint::Nonmember(t, a) => root_bit(parents, t) & !of(rows, Literal(8 + a.0)),
-        Constraint::Same(t, u) => root_bit(parents, t) & !root_bit(parents, u),
-        Constraint::Different(t, u) => root_bit(parents, t) & root_bit(parents, u),
+        Constraint::Member(t, a) => bit_at(root(parents, t).0) & !of(rows, Literal(a.0)),
+        Constraint::Nonmember(t, a) => bit_at(root(parents, t).0) & !of(rows, Literal(8 + a.0)),
+        Constraint::Same(t, u) => bit_at(root(parents, t).0) & !bit_at(root(parents, u).0),
+        Constraint::Different(t, u) => bit_at(root(parents, t).0) & bit_at(root(parents, u).0),
         Constraint::Related(_, a, b, c) => {
             if rule == 12 {
                 return divided(rows, split_of(a, b, c));
@@ -302,7 +277,7 @@ pub fn fitting(
             forced(rows, row_of(rule, a, b, c))
         }
         Constraint::Negated(_, a, b, c, w) => denied(parents, rows, denial_of(a, b, c), w),
-        Constraint::Exactly(a) => listing(parents, rows, list, entries, a, rule),
-        Constraint::Interval(a, _, _) => listing(parents, rows, list, entries, a, rule),
+        Constraint::Exactly(a) => listing(parents, rows, list, word, a, rule),
+        Constraint::Interval(a, _, _) => listing(parents, rows, list, word, a, rule),
     }
 }

@@ -21,19 +21,19 @@ returns-2 c =
     rw (e, o, c .before .before .denial-of .ensures)
 
 returns-3 : tie.Need-returns-3
-returns-3 c = rw (c .before .before .before .before .before .if3 .taken, c .before .if4 .taken, c .alone .ensures, c .before .before .before .before .split-of .ensures)
+returns-3 c = rw (c .before .before .before .if3 .taken, c .before .if4 .taken, c .alone .ensures, c .before .before .split-of .ensures)
 
-add-t15 : tie.Need-add-t15
-add-t15 c = omega (arith, ap (λ (s : Split). s .1 .0) (c .before .before .before .before .split-of .ensures))
+add-t12 : tie.Need-add-t12
+add-t12 c = omega (arith, ap (λ (s : Split). s .1 .0) (c .before .before .split-of .ensures))
 
 returns-4 : tie.Need-returns-4
 returns-4 c =
-    let s = c .before .before .before .before .before .before .before in
-    let e = c .before .before .before .before .before .if3 .taken in
+    let s = c .before .before .before .before .before in
+    let e = c .before .before .before .if3 .taken in
     let n = s .pre .there in
     let l : s .args .n < 2 = rw e at n in
     let o : s .args .n ≡ 1 = omega arith in
-    rw (e, o, c .before .before .before .before .split-of .ensures)
+    rw (e, o, c .before .before .split-of .ensures)
 
 returns-5 : tie.Need-returns-5
 returns-5 c =
@@ -45,4 +45,4 @@ returns-5 c =
     rw (o, c .alone2 .ensures, c .before .row-of .ensures, e)
 
 pub child-of-spec : {M : Type 1} → statement M
-child-of-spec = tie.close (tie.spec (λ c κs. search needs) returns returns-2 (λ c κs. search needs) (λ c κs. search needs) returns-3 add-t15 returns-4 (λ c κs. search needs) (λ c κs. search needs) returns-5)
+child-of-spec = tie.close (tie.spec (λ c κs. search needs) returns returns-2 (λ c κs. search needs) (λ c κs. search needs) returns-3 add-t12 returns-4 (λ c κs. search needs) (λ c κs. search needs) returns-5)
