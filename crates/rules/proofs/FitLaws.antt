@@ -9,6 +9,7 @@ use native.Mathlib.Decide.{ℕ-discrete}
 use lib.ListN.{length, getD}
 use lib.Dec.{eqb}
 use lib.Bits.{bitAnd}
+use lib.Pow.{pow-lt}
 use borrow.Author.Tests.{eqb-true, eq-eqb, ne-eqb}
 use Rattle.calculus.specs.Lists.{upFrom, all, any, first, bit, Each}
 use Rattle.calculus.specs.Terms.{Term, SetVar, term, setVar}
@@ -19,7 +20,7 @@ use Rattle.calculus.specs.Branch as calculus
 use Rattle.calculus.specs.Invariants.{Falls}
 use Rattle.calculus.specs.Search.{Move, choose, at}
 use Rattle.calculus.proofs.Bools.{clash, and-l, any-map}
-use Rattle.calculus.proofs.Masks.{bit-pow, bit-zero}
+use Rattle.calculus.proofs.Masks.{bit-and, bit-pow, bit-zero}
 use Rattle.calculus.proofs.SearchLaws.{first-stop, first-next}
 use Rattle.calculus.specs.Relations.{operandOf}
 use Rattle.calculus.proofs.Walk.{walk-root, root-walk}
@@ -41,12 +42,12 @@ use Rattle.rules.specs.declared.Child.{Child}
 use Rattle.rules.specs.declared.Denial.{Denial}
 use Rattle.rules.specs.declared.Row.{Row as Code}
 use Rattle.rules.specs.declared.Split.{Split}
-use Rattle.rules.specs.Rows.{numbered, HasRow, splitting, numberOf, left, right, head, second, last, childAt, lastChild, laid, parted, child, denying}
-use Rattle.rules.specs.Words.{forcedWord, dividedWord, deniedWord, metWord, LowRow, LowSplit, LowChild, LowDenial, missed, OfRoots, Listing, Shown, Fits}
+use Rattle.rules.specs.Rows.{numbered, sets, HasRow, splitting, numberOf, laid, parted, denying}
+use Rattle.rules.specs.Words.{forcedWord, dividedWord, deniedWord, metWord, LowChild, LowDenial, missed, OfRoots, Listing, Lent, Asked, Fits, FitsFor}
 use Rattle.rules.proofs.Listed.{turned}
 use Rattle.rules.proofs.TableTests.{row-of, denied-row, forcedTest, dividedTest, deniedTest}
-use Rattle.rules.proofs.Lowest.{and-none, first-fails, first-map, map-map, first-range, single, one-fits, roots-fits}
-use Rattle.rules.proofs.RowBits.{known-in, known-out, applies-at, number-low, operand-low, forced-bits, divided-bits, met-bits, but-bits, denied-bits}
+use Rattle.rules.proofs.Lowest.{at-one, first-fails, first-map, map-map, first-range, single, one-fits, roots-fits}
+use Rattle.rules.proofs.RowBits.{known-in, known-out, applies-at, laid-low, parted-low, denying-low, forced-bits, divided-bits, met-bits, met-small, but-bits, but-three}
 
 -- ---- the word of rule j, operandOf the decoded constraint: over parents, rows and entries
 
@@ -54,13 +55,10 @@ module _ (ps rows es : List ℕ) (j : ℕ) where
   abbrev pub IsWord : Coded → ℕ → Type 0
   IsWord (Member t A) w = w ≡ bitAnd (2 ^ rootOf ps (t .0)) (2 ^ 64 - 1 - getD rows (A .0) 0)
   IsWord (Nonmember t A) w = w ≡ bitAnd (2 ^ rootOf ps (t .0)) (2 ^ 64 - 1 - getD rows (8 + A .0) 0)
-  IsWord (Equated t u) w = w ≡ cond (eqb (rootOf ps (t .0)) (rootOf ps (u .0))) 0 (2 ^ rootOf ps (t .0))
-  IsWord (Different t u) w = w ≡ cond (eqb (rootOf ps (t .0)) (rootOf ps (u .0))) (2 ^ rootOf ps (t .0)) 0
-  IsWord (Related k A B C) w =
-      let r = laid (operandOf (A .0) (B .0) (C .0)) (numbered j) in
-      let s = parted (operandOf (A .0) (B .0) (C .0)) (numbered j) in
-      (splitting j ≡ false → w ≡ forcedWord rows (r .needs .0) (r .also .0) (r .gives .0)) × (splitting j ≡ true → w ≡ dividedWord rows (s .needs .0) (s .left .0) (s .right .0))
-  IsWord (Negated k A B C x) w = w ≡ deniedWord rows (denying (operandOf (A .0) (B .0) (C .0)) (negationRow (negationOf k))) (rootOf ps (x .0))
+  IsWord (Equated t u) w = w ≡ bitAnd (2 ^ rootOf ps (t .0)) (2 ^ 64 - 1 - 2 ^ rootOf ps (u .0))
+  IsWord (Different t u) w = w ≡ bitAnd (2 ^ rootOf ps (t .0)) (2 ^ rootOf ps (u .0))
+  IsWord (Related k A B C) w = (splitting j ≡ false → w ≡ forcedWord rows (laid (sets A B C) (numbered j))) × (splitting j ≡ true → w ≡ dividedWord rows (parted (sets A B C) (numbered j)))
+  IsWord (Negated k A B C x) w = w ≡ deniedWord rows (denying (sets A B C) (negationRow (negationOf k))) (rootOf ps (x .0))
   IsWord (Exactly A) w = Listing ps (getD rows (A .0) 0) es j w
   IsWord (Interval A x y) w = Listing ps (getD rows (A .0) 0) es j w
 
@@ -93,20 +91,13 @@ module _ (n : ℕ) (b : Branch) (rows : List ℕ) (of : RowsOf b rows) (fall : F
   row-at : (k t : ℕ) → k < 16 → t < n → bit (getD rows k 0) (rt t) ≡ known b k (rt t)
   row-at k t l m = of .says k (rt t) l (low64 t m) ∙ ap (λ (q : Bool). q && known b k (rt t)) (eq-eqb (rootAt b (rt t)) (rt t) (own t))
 
-  -- a rule that is tested of one row at the root of term t
-  one-row : (l : Constraint) (j t k : ℕ) → t < n → k < 16 → positions n b l j ≡ rootAt b t ∷ [] → ((p : ℕ) → moveAt b l j p .0 ≡ root b (term t)) → applies (calculus.known b) (moveAt b l j (rt t) .1) ≡ not (known b k (rt t)) → Fits n b l j (bitAnd (2 ^ rt t) (2 ^ 64 - 1 - getD rows k 0))
-  one-row l j t k lt lk at on e =
-      one-fits n b l j few (rt t) (at ∙ ap (λ (r : ℕ). r ∷ []) (is t)) (ap (λ (x : Term). x .index) (on (rt t)) ∙ is t) (low t lt) (not (known b k (rt t))) e (bitAnd (2 ^ rt t) (2 ^ 64 - 1 - getD rows k 0))
-      (λ h m. but-bits b rows of (rt t) (getD rows k 0) (low64 t lt) (of .small k lk) h ∙ ap (λ (q : Bool). eqb h (rt t) && not q) (row-at k t lk lt))
+  -- a rule that is tested at the root of term t alone
+  one-at : (l : Constraint) (j t : ℕ) → t < n → positions n b l j ≡ rootAt b t ∷ [] → ((p : ℕ) → moveAt b l j p .0 ≡ root b (term t)) → (c : Bool) → applies (calculus.known b) (moveAt b l j (rt t) .1) ≡ c → (w : ℕ) → ((h : ℕ) → bit w h ≡ (eqb h (rt t) && c)) → Fits n b l j w
+  one-at l j t lt at on c e w f = one-fits n b l j few (rt t) (at ∙ ap (λ (r : ℕ). r ∷ []) (is t)) (ap (λ (x : Term). x .index) (on (rt t)) ∙ is t) (low t lt) c e w (λ h _. f h)
 
-  -- the root of term t, or none
-  one-bit : (r : ℕ) (c : Bool) (h : ℕ) → bit (cond c (2 ^ r) 0) h ≡ (eqb h r && c)
-  one-bit r true h = bit-pow r h ∙ sym (and-true (eqb h r))
-  one-bit r false h = bit-zero h ∙ sym (and-none (eqb h r))
-
-  one-if : (l : Constraint) (j t : ℕ) → t < n → positions n b l j ≡ rootAt b t ∷ [] → ((p : ℕ) → moveAt b l j p .0 ≡ root b (term t)) → (c : Bool) → applies (calculus.known b) (moveAt b l j (rt t) .1) ≡ c → (w : ℕ) → w ≡ cond c (2 ^ rt t) 0 → Fits n b l j w
-  one-if l j t lt at on c e w f =
-      one-fits n b l j few (rt t) (at ∙ ap (λ (r : ℕ). r ∷ []) (is t)) (ap (λ (x : Term). x .index) (on (rt t)) ∙ is t) (low t lt) c e w (λ h m. ap (λ (k : ℕ). bit k h) f ∙ one-bit (rt t) c h)
+  -- it applies where a word has not that root
+  one-but : (l : Constraint) (j t : ℕ) → t < n → positions n b l j ≡ rootAt b t ∷ [] → ((p : ℕ) → moveAt b l j p .0 ≡ root b (term t)) → (x : ℕ) → x < 2 ^ 64 → (k : Bool) → bit x (rt t) ≡ k → applies (calculus.known b) (moveAt b l j (rt t) .1) ≡ not k → (w : ℕ) → w ≡ bitAnd (2 ^ rt t) (2 ^ 64 - 1 - x) → Fits n b l j w
+  one-but l j t lt at on x s k q e w f = one-at l j t lt at on (not k) e w (λ h. ap (λ (y : ℕ). bit y h) f ∙ but-bits (rt t) x (low64 t lt) s h ∙ ap (λ (y : Bool). eqb h (rt t) && not y) q)
 
   -- a rule that is tested at every root
   root-bits : (x : Bool) (f g : Bool) → (x ≡ true → f ≡ g) → (x && f) ≡ (x && g)
@@ -122,51 +113,39 @@ module _ (n : ℕ) (b : Branch) (rows : List ℕ) (of : RowsOf b rows) (fall : F
     here : (h : ℕ) → rootAt b h ≡ h → applies (calculus.known b) (moveAt b (relation k A B C) j h .1) ≡ applies (K h) (numbered j)
     here h e = applies-at b h h e A B C lows (rowOf k j) ∙ ap (applies (K h)) (row-of k A B C j r .is)
 
-    abbrev set : Operand → ℕ
-    set = operandOf (A .index) (B .index) (C .index)
+    -- the code's test at every root is the rule's
+    test-fits : (w : ℕ) (t : (Literal → Bool) → Bool) → ((h : ℕ) → h < 64 → bit w h ≡ (eqb (rootAt b h) h && t (K h))) → ((f : Literal → Bool) → applies f (numbered j) ≡ t f) → Fits n b (relation k A B C) j w
+    test-fits w t f g = roots-fits n b (relation k A B C) j few refl (λ p. refl) w (λ h l. f h l ∙ root-bits (eqb (rootAt b h) h) (t (K h)) (applies (calculus.known b) (moveAt b (relation k A B C) j h .1)) (λ q. sym (here h (eqb-true (rootAt b h) h q) ∙ g (K h))))
 
-    abbrev N : Literal → ℕ
-    N = numberOf set
+    abbrev S : Operand → ℕ
+    S = operandOf (A .index) (B .index) (C .index)
 
-    number : (l : Literal) → N l < 16
-    number = number-low (A .index) (B .index) (C .index) lows
+    forced-fits : splitting j ≡ false → (w : ℕ) → w ≡ forcedWord rows (laid S (numbered j)) → Fits n b (relation k A B C) j w
+    forced-fits m w f = test-fits w (λ g. forcedTest g (numbered j)) (λ h l. ap (λ (x : ℕ). bit x h) f ∙ forced-bits b rows of h l (laid S (numbered j)) (laid-low (A .index) (B .index) (C .index) lows (numbered j))) (row-of k A B C j r .forced m)
 
-    set-low : (p : Operand) → set p < 8
-    set-low = operand-low (A .index) (B .index) (C .index) lows
-
-    forced-fits : splitting j ≡ false → (w : ℕ) → w ≡ forcedWord rows (laid (operandOf (A .index) (B .index) (C .index)) (numbered j) .needs .0) (laid (operandOf (A .index) (B .index) (C .index)) (numbered j) .also .0) (laid (operandOf (A .index) (B .index) (C .index)) (numbered j) .gives .0) → Fits n b (relation k A B C) j w
-    forced-fits m w f = roots-fits n b (relation k A B C) j few refl (λ p. refl) w (λ h l. ap (λ (x : ℕ). bit x h) f
-        ∙ forced-bits b rows of h l (N (head (numbered j .premises))) (N (last (numbered j .premises))) (N (head (childAt 0 (numbered j)))) (number (head (numbered j .premises))) (number (last (numbered j .premises))) (number (head (childAt 0 (numbered j))))
-        ∙ root-bits (eqb (rootAt b h) h) (forcedTest (K h) (numbered j)) (applies (calculus.known b) (moveAt b (relation k A B C) j h .1)) (λ q. sym (here h (eqb-true (rootAt b h) h q) ∙ row-of k A B C j r .forced m (K h))))
-
-    divided-fits : splitting j ≡ true → (w : ℕ) → w ≡ dividedWord rows (parted (operandOf (A .index) (B .index) (C .index)) (numbered j) .needs .0) (parted (operandOf (A .index) (B .index) (C .index)) (numbered j) .left .0) (parted (operandOf (A .index) (B .index) (C .index)) (numbered j) .right .0) → Fits n b (relation k A B C) j w
-    divided-fits z w f = roots-fits n b (relation k A B C) j few refl (λ p. refl) w (λ h l. ap (λ (x : ℕ). bit x h) f
-        ∙ divided-bits b rows of h l (N (head (numbered j .premises))) (set (left (numbered j))) (set (right (numbered j))) (number (head (numbered j .premises))) (set-low (left (numbered j))) (set-low (right (numbered j)))
-        ∙ root-bits (eqb (rootAt b h) h) (dividedTest (K h) (numbered j)) (applies (calculus.known b) (moveAt b (relation k A B C) j h .1)) (λ q. sym (here h (eqb-true (rootAt b h) h q) ∙ row-of k A B C j r .divided z (K h))))
+    divided-fits : splitting j ≡ true → (w : ℕ) → w ≡ dividedWord rows (parted S (numbered j)) → Fits n b (relation k A B C) j w
+    divided-fits m w f = test-fits w (λ g. dividedTest g (numbered j)) (λ h l. ap (λ (x : ℕ). bit x h) f ∙ divided-bits b rows of h l (parted S (numbered j)) (parted-low (A .index) (B .index) (C .index) lows (numbered j))) (row-of k A B C j r .divided m)
 
   -- ---- negations
 
   denied-fits : (k : Negation) (A B C : SetVar) (t j : ℕ) → (A .index < 8) × (B .index < 8) × (C .index < 8) → t < n → (w : ℕ) → w ≡ deniedWord rows (denying (operandOf (A .index) (B .index) (C .index)) (negationRow k)) (rt t) → Fits n b (negation k A B C (term t)) j w
+  unfolding deniedWord
   denied-fits k A B C t j lows lt w f =
-      one-fits n b (negation k A B C (term t)) j few (rt t) (ap (λ (r : ℕ). r ∷ []) (is t)) (is t) (low t lt) (deniedTest K (negationRow k))
-      (applies-at b t (rt t) (is t) A B C lows (negationRow k) ∙ denied-row k K) w
-      (λ h m. ap (λ (k : ℕ). bit k h) f ∙ denied-bits b rows of d (lowest (childAt 0 (negationRow k))) (lowest (childAt 1 (negationRow k))) (lowest (lastChild (negationRow k))) (rt t) (low64 t lt) h
-      ∙ ap (λ (q : Bool). eqb h (rt t) && q) (ap₂ _&&_ (ap₂ _&&_ (ap not (met (d .first) (lowest (childAt 0 (negationRow k))))) (ap not (met (d .second) (lowest (childAt 1 (negationRow k)))))) (ap not (met (d .third) (lowest (lastChild (negationRow k)))))))
+      one-at (negation k A B C (term t)) j t lt refl (λ p. refl) (deniedTest K (negationRow k)) (applies-at b t (rt t) (is t) A B C lows (negationRow k) ∙ denied-row k K) w
+      (λ h. ap (λ (k : ℕ). bit k h) f ∙ but-three (rt t) _ _ _ (low64 t lt) (met-small b rows of (d .0) (small .0)) (met-small b rows of (d .1) (small .1)) (met-small b rows of (d .2) (small .2)) h
+      ∙ ap (λ (q : Bool). eqb h (rt t) && q) (ap₂ _&&_ (ap₂ _&&_ (ap not (met (d .0) (small .0))) (ap not (met (d .1) (small .1)))) (ap not (met (d .2) (small .2)))))
     where
       d : Denial
       d = denying (operandOf (A .index) (B .index) (C .index)) (negationRow k)
 
+      small : LowDenial d
+      small = denying-low (A .index) (B .index) (C .index) lows (negationRow k)
+
       K : Literal → Bool
       K l = known b (numberOf (operandOf (A .index) (B .index) (C .index)) l) (rt t)
 
-      number : (l : Literal) → numberOf (operandOf (A .index) (B .index) (C .index)) l < 16
-      number = number-low (A .index) (B .index) (C .index) lows
-
-      lowest : (ls : List Literal) → LowChild (child (operandOf (A .index) (B .index) (C .index)) ls)
-      lowest ls = (number (head ls), number (second ls), number (last ls))
-
-      met : (c : Child) → LowChild c → bit (metWord rows c) (rt t) ≡ ((known b (c .first .0) (rt t) && known b (c .second .0) (rt t)) && known b (c .third .0) (rt t))
-      met c x = met-bits b rows of (rt t) (low64 t lt) c x ∙ ap (λ (q : Bool). q && ((known b (c .first .0) (rt t) && known b (c .second .0) (rt t)) && known b (c .third .0) (rt t))) (eq-eqb (rootAt b (rt t)) (rt t) (own t))
+      met : (c : Child) → LowChild c → bit (metWord rows c) (rt t) ≡ ((known b (c .0 .0) (rt t) && known b (c .1 .0) (rt t)) && known b (c .2 .0) (rt t))
+      met c x = met-bits b rows of (rt t) (low64 t lt) c x ∙ ap (λ (q : Bool). q && ((known b (c .0 .0) (rt t) && known b (c .1 .0) (rt t)) && known b (c .2 .0) (rt t))) (eq-eqb (rootAt b (rt t)) (rt t) (own t))
 
   -- ---- lists
 
@@ -254,21 +233,18 @@ each-term n (x ∷ es) e = (e .0, each-term n es (e .1))
 
 fits-of : (n : ℕ) (b : Branch) (rows es : List ℕ) (j : ℕ) → RowsOf b rows → Falls (b .parents) → n ≤ 64 → (l : Coded) → entriesOf (decoded (map term es) l) ≡ map term es → ConstraintIn n 8 (decoded (map term es) l) → RuleOf (decoded (map term es) l) j → (w : ℕ) → IsWord (b .parents) rows es j l w → Fits n b (decoded (map term es) l) j w
 fits-of n b rows es j of fall few (Member t A) q c r w i =
-    subst (Fits n b (member (term (t .0)) (setVar (A .0))) j) (sym i) (one-row n b rows of fall few (member (term (t .0)) (setVar (A .0))) j (t .0) (A .0) (c .0) (omega (arith, c .1)) refl (λ p. refl)
-    (once (calculus.known b (In (term (t .0)) (setVar (A .0)))) ∙ ap not (known-in b (t .0) (rootOf (b .parents) (t .0)) (root-is b (t .0)) (setVar (A .0)) (c .1))))
+    one-but n b rows of fall few (member (term (t .0)) (setVar (A .0))) j (t .0) (c .0) refl (λ p. refl) (getD rows (A .0) 0) (of .small (A .0) (omega (arith, c .1))) _ (row-at n b rows of fall few (A .0) (t .0) (omega (arith, c .1)) (c .0))
+    (once (calculus.known b (In (term (t .0)) (setVar (A .0)))) ∙ ap not (known-in b (t .0) (rootOf (b .parents) (t .0)) (root-is b (t .0)) (setVar (A .0)) (c .1))) w i
 fits-of n b rows es j of fall few (Nonmember t A) q c r w i =
-    subst (Fits n b (nonmember (term (t .0)) (setVar (A .0))) j) (sym i) (one-row n b rows of fall few (nonmember (term (t .0)) (setVar (A .0))) j (t .0) (8 + A .0) (c .0) (omega (arith, c .1)) refl (λ p. refl)
-    (once (calculus.known b (Out (term (t .0)) (setVar (A .0)))) ∙ ap not (known-out b (t .0) (rootOf (b .parents) (t .0)) (root-is b (t .0)) (setVar (A .0)) (c .1))))
+    one-but n b rows of fall few (nonmember (term (t .0)) (setVar (A .0))) j (t .0) (c .0) refl (λ p. refl) (getD rows (8 + A .0) 0) (of .small (8 + A .0) (omega (arith, c .1))) _ (row-at n b rows of fall few (8 + A .0) (t .0) (omega (arith, c .1)) (c .0))
+    (once (calculus.known b (Out (term (t .0)) (setVar (A .0)))) ∙ ap not (known-out b (t .0) (rootOf (b .parents) (t .0)) (root-is b (t .0)) (setVar (A .0)) (c .1))) w i
 fits-of n b rows es j of fall few (Equated t u) q c r w i =
-    one-if n b rows of fall few (same (term (t .0)) (term (u .0))) j (t .0) (c .0) refl (λ p. refl) (not (eqb (rootOf (b .parents) (t .0)) (rootOf (b .parents) (u .0))))
-    (once (eqb (rootAt b (t .0)) (rootAt b (u .0))) ∙ ap₂ (λ (x y : ℕ). not (eqb x y)) (root-is b (t .0)) (root-is b (u .0))) w (i ∙ flip (eqb (rootOf (b .parents) (t .0)) (rootOf (b .parents) (u .0))) (2 ^ rootOf (b .parents) (t .0)))
-  where
-    flip : (x : Bool) (k : ℕ) → _≡_ {A = ℕ} (cond x 0 k) (cond (not x) k 0)
-    flip true k = refl
-    flip false k = refl
+    one-but n b rows of fall few (same (term (t .0)) (term (u .0))) j (t .0) (c .0) refl (λ p. refl) (2 ^ rootOf (b .parents) (u .0)) (pow-lt (low64 n b rows of fall few (u .0) (c .1))) _ (bit-pow (rootOf (b .parents) (u .0)) (rootOf (b .parents) (t .0)))
+    (once (eqb (rootAt b (t .0)) (rootAt b (u .0))) ∙ ap₂ (λ (x y : ℕ). not (eqb x y)) (root-is b (t .0)) (root-is b (u .0))) w i
 fits-of n b rows es j of fall few (Different t u) q c r w i =
-    one-if n b rows of fall few (different (term (t .0)) (term (u .0))) j (t .0) (c .0) refl (λ p. refl) (eqb (rootOf (b .parents) (t .0)) (rootOf (b .parents) (u .0)))
-    (and-true _ ∙ and-true _ ∙ ap₂ eqb (root-is b (t .0)) (root-is b (u .0))) w i
+    one-at n b rows of fall few (different (term (t .0)) (term (u .0))) j (t .0) (c .0) refl (λ p. refl) (eqb (rootOf (b .parents) (t .0)) (rootOf (b .parents) (u .0)))
+    (and-true _ ∙ and-true _ ∙ ap₂ eqb (root-is b (t .0)) (root-is b (u .0))) w
+    (λ h. ap (λ (x : ℕ). bit x h) i ∙ bit-and (2 ^ rootOf (b .parents) (t .0)) (2 ^ rootOf (b .parents) (u .0)) h ∙ ap₂ _&&_ (bit-pow (rootOf (b .parents) (t .0)) h) (bit-pow (rootOf (b .parents) (u .0)) h) ∙ at-one (λ k. eqb k (rootOf (b .parents) (u .0))) h (rootOf (b .parents) (t .0)))
 fits-of n b rows es j of fall few (Related k A B C) q c r w i = go (splitting j) refl
   where
     go : (x : Bool) → splitting j ≡ x → Fits n b (relation (relationOf k) (setVar (A .0)) (setVar (B .0)) (setVar (C .0))) j w
@@ -281,34 +257,31 @@ fits-of n b rows es j of fall few (Interval A x y) q c r w i =
     (λ p. ap (λ (ts : List Term). listMove b (setVar (A .0)) ts j p) q) (ap (λ (ts : List Term). cond (eqb j 19) (upFrom 0 (length ts)) (roots n b)) q)
 
 -- for the code: l is what was matched as m
-module _ {l m : Coded} (e : l ≡ m) (es : List ℕ) (h : Handled es l) where
+module _ {es : List ℕ} {word j : ℕ} {l m : Coded} (e : l ≡ m) (q : Asked es word l j) where
   pub in-range : ConstraintIn 64 8 (decoded (map term es) m)
-  in-range = subst (λ (x : Coded). ConstraintIn 64 8 (decoded (map term es) x)) e (h .in-range)
+  in-range = subst (λ (x : Coded). ConstraintIn 64 8 (decoded (map term es) x)) e (q .handled .in-range)
 
-  pub fits-right : (ps rows : List ℕ) (j w : ℕ) → Falls ps → RuleOf (decoded (map term es) l) j → IsWord ps rows es j m w → (n : ℕ) (b : Branch) → n ≤ 64 → ConstraintIn n 8 (decoded (map term es) l) → Shown b ps rows → Fits n b (decoded (map term es) l) j w
-  fits-right ps rows j w fall r i n b few c s =
-      fits-of n b rows es j (s .rows-are) (subst Falls (sym (s .parents-are)) fall) few l (h .entries-are) c r w
+  pub fits-right : (ps rows : List ℕ) → Lent ps rows → (w : ℕ) → IsWord ps rows es j m w → FitsFor ps rows es l j w
+  fits-right ps rows lent w i n b few c s =
+      fits-of n b rows es j (s .rows-are) (subst Falls (sym (s .parents-are)) (lent .rooted .falls)) few l (q .handled .entries-are) c (q .of-rule) w
       (subst (λ (x : Coded). IsWord (b .parents) rows es j x w) (sym e) (subst (λ (qs : List ℕ). IsWord qs rows es j m w) (sym (s .parents-are)) i))
 
 -- what row_of, split_of and denial_of answer makes the right words
-module _ (ps rows es : List ℕ) (j w : ℕ) (fall : Falls ps) where
-  pub forced-right : {l : Coded} {k : CodedRelation} {A B C : CodedSet} → l ≡ Related k A B C → Handled es l → RuleOf (decoded (map term es) l) j → ¬ (j ≡ 12) → (x : Code) → x ≡ laid (operandOf (A .0) (B .0) (C .0)) (numbered j) → w ≡ forcedWord rows (x .needs .0) (x .also .0) (x .gives .0)
-      → (n : ℕ) (b : Branch) → n ≤ 64 → ConstraintIn n 8 (decoded (map term es) l) → Shown b ps rows → Fits n b (decoded (map term es) l) j w
-  forced-right {l} {k} {A} {B} {C} e h r n x q f = fits-right e es h ps rows j w fall r (λ _. f ∙ ap (λ (x : Code). forcedWord rows (x .needs .0) (x .also .0) (x .gives .0)) q, λ z. absurd (n (eqb-true j 12 z)))
+module _ (rows : List ℕ) (j w : ℕ) (A B C : CodedSet) where
+  abbrev Word : Type 0
+  Word = (splitting j ≡ false → w ≡ forcedWord rows (laid (sets A B C) (numbered j))) × (splitting j ≡ true → w ≡ dividedWord rows (parted (sets A B C) (numbered j)))
 
-  pub divided-right : {l : Coded} {k : CodedRelation} {A B C : CodedSet} → l ≡ Related k A B C → Handled es l → RuleOf (decoded (map term es) l) j → j ≡ 12 → (x : Split) → x ≡ parted (operandOf (A .0) (B .0) (C .0)) (numbered 12) → w ≡ dividedWord rows (x .needs .0) (x .left .0) (x .right .0)
-      → (n : ℕ) (b : Branch) → n ≤ 64 → ConstraintIn n 8 (decoded (map term es) l) → Shown b ps rows → Fits n b (decoded (map term es) l) j w
-  divided-right {l} {k} {A} {B} {C} e h r n x q f = fits-right e es h ps rows j w fall r (
-    λ z. clash (eq-eqb j 12 n) z,
-    λ _. f ∙ ap (λ (x : Split). dividedWord rows (x .needs .0) (x .left .0) (x .right .0)) (q ∙ ap (λ (i : ℕ). parted (operandOf (A .0) (B .0) (C .0)) (numbered i)) (sym n)),
-  )
+  pub forced-word : ¬ (j ≡ 12) → (x : Code) → x ≡ laid (sets A B C) (numbered j) → w ≡ forcedWord rows x → Word
+  forced-word n x q f = (λ _. f ∙ ap (forcedWord rows) q, λ z. absurd (n (eqb-true j 12 z)))
 
-  pub denied-right : {l : Coded} {k : CodedNegation} {A B C : CodedSet} {t : CodedTerm} → l ≡ Negated k A B C t → Handled es l → RuleOf (decoded (map term es) l) j → (x : Denial) → x ≡ denying (operandOf (A .0) (B .0) (C .0)) (numbered 7) → w ≡ deniedWord rows x (rootOf ps (t .0))
-      → (n : ℕ) (b : Branch) → n ≤ 64 → ConstraintIn n 8 (decoded (map term es) l) → Shown b ps rows → Fits n b (decoded (map term es) l) j w
-  denied-right {l} {k} {A} {B} {C} {t} e h r x q f = fits-right e es h ps rows j w fall r (f ∙ ap (λ (x : Denial). deniedWord rows x (rootOf ps (t .0))) (q ∙ ap (denying (operandOf (A .0) (B .0) (C .0))) (seven k)))
-    where
-      seven : (k : CodedNegation) → numbered 7 ≡ negationRow (negationOf k)
-      seven Unequal = refl
+  pub divided-word : j ≡ 12 → (x : Split) → x ≡ parted (sets A B C) (numbered 12) → w ≡ dividedWord rows x → Word
+  divided-word n x q f = (λ z. clash (eq-eqb j 12 n) z, λ _. f ∙ ap (dividedWord rows) (q ∙ ap (λ (i : ℕ). parted (sets A B C) (numbered i)) (sym n)))
+
+pub denied-word : {l : Coded} {k : CodedNegation} {A B C : CodedSet} {t : CodedTerm} → l ≡ Negated k A B C t → (rows : List ℕ) (w h : ℕ) (x : Denial) → x ≡ denying (sets A B C) (numbered 7) → w ≡ deniedWord rows x h → w ≡ deniedWord rows (denying (sets A B C) (negationRow (negationOf k))) h
+denied-word {l} {k} {A} {B} {C} e rows w h x q f = f ∙ ap (λ (x : Denial). deniedWord rows x h) (q ∙ ap (denying (sets A B C)) (seven k))
+  where
+    seven : (k : CodedNegation) → numbered 7 ≡ negationRow (negationOf k)
+    seven Unequal = refl
 
 -- the entries are terms below 64
 entries-in : (l : Constraint) → ConstraintIn 64 8 l → Each (λ (e : Term). e .index < 64) (entriesOf l)
@@ -325,21 +298,8 @@ pub entries-below : (es : List ℕ) (l : Coded) → Handled es l → Each (λ e.
 entries-below es l h = each-term 64 es (subst (Each (λ (e : Term). e .index < 64)) (h .entries-are) (entries-in (decoded (map term es) l) (h .in-range)))
 
 -- the number of a relation's rule
-pub related-number : (es : List ℕ) (j : ℕ) {l : Coded} {k : CodedRelation} {A B C : CodedSet} → l ≡ Related k A B C → RuleOf (decoded (map term es) l) j → ¬ (j ≡ 12) → A .0 < 8 → B .0 < 8 → HasRow j (A .0) (B .0)
-related-number es j {l} {k} {A} {B} {C} e r n a b =
-    let x = row-of (relationOf k) (setVar (A .0)) (setVar (B .0)) (setVar (C .0)) j (subst (λ (x : Coded). RuleOf (decoded (map term es) x) j) e r) in
-    record { low = x .low; high = x .high; no-negation = x .no-seven; no-split = n; first-set = a; second-set = b }
-
-pub laid-low : (A B C j : ℕ) → (A < 8) × (B < 8) × (C < 8) → (r : Code) → r ≡ laid (operandOf A B C) (numbered j) → LowRow r
-laid-low A B C j lows r e =
-    let n : (l : Literal) → numberOf (operandOf A B C) l < 16 = number-low A B C lows in
-    subst LowRow (sym e) (n (head (numbered j .premises)), n (last (numbered j .premises)), n (head (childAt 0 (numbered j))))
-
-pub parted-low : (A B C : ℕ) → (A < 8) × (B < 8) × (C < 8) → (r : Split) → r ≡ parted (operandOf A B C) (numbered 12) → LowSplit r
-parted-low A B C lows r e =
-    subst LowSplit (sym e) (number-low A B C lows (head (numbered 12 .premises)), lows .0, lows .1)
-
-pub denying-low : (A B C : ℕ) → (A < 8) × (B < 8) × (C < 8) → (d : Denial) → d ≡ denying (operandOf A B C) (numbered 7) → LowDenial d
-denying-low A B C lows d e =
-    let n : (ls : List Literal) → LowChild (child (operandOf A B C) ls) = λ ls. (number-low A B C lows (head ls), number-low A B C lows (second ls), number-low A B C lows (last ls)) in
-    subst LowDenial (sym e) (n (childAt 0 (numbered 7)), n (childAt 1 (numbered 7)), n (lastChild (numbered 7)))
+pub related-number : {es : List ℕ} {word j : ℕ} {l : Coded} {k : CodedRelation} {A B C : CodedSet} → l ≡ Related k A B C → Asked es word l j → ¬ (j ≡ 12) → HasRow j A B
+related-number {es} {word} {j} {l} {k} {A} {B} {C} e q n =
+    let x = row-of (relationOf k) (setVar (A .0)) (setVar (B .0)) (setVar (C .0)) j (subst (λ (x : Coded). RuleOf (decoded (map term es) x) j) e (q .of-rule)) in
+    let r = in-range e q in
+    record { low = x .low; high = x .high; no-negation = x .no-seven; no-split = n; first-set = r .0; second-set = r .1 }

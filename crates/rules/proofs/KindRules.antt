@@ -48,39 +48,41 @@ same-pair x y e = (ap (λ (z : ℕ × ℕ). z .0) e, ap (λ (z : ℕ × ℕ). z 
 pub of-kind : (split t : Bool) → split ≡ t → (kind k : ℕ) → kind ≡ k → (first end : ℕ) → (first, end) ≡ getD (table t) k (0, 0) → Spanned split kind first end
 of-kind split t e kind k q first end r l h = rw e (same-pair (first, end) (spanOf t l) (r ∙ sym (rw (h ∙ q) at (spans t l))))
 
--- any other kind has none
-split-other : (l : Constraint) (k : ℕ) → kindOf l ≡ k → ¬ (k ≡ 6) → ¬ (k ≡ 7) → ¬ (k ≡ 11) → ¬ (k ≡ 12) → splitSpan l ≡ (0, 0)
-split-other (member t A) k e _ _ _ _ = refl
-split-other (nonmember t A) k e _ _ _ _ = refl
-split-other (same t u) k e _ _ _ _ = refl
-split-other (different t u) k e _ _ _ _ = refl
-split-other (relation equal A B C) k e _ _ _ _ = refl
-split-other (negation unequal A B C w) k e n6 _ _ _ = absurd (n6 (sym e))
-split-other (relation union A B C) k e _ n7 _ _ = absurd (n7 (sym e))
-split-other (relation disjoint A B C) k e _ _ _ _ = refl
-split-other (relation subset A B C) k e _ _ _ _ = refl
-split-other (relation intersection A B C) k e _ _ _ _ = refl
-split-other (exactly A es) k e _ _ n11 _ = absurd (n11 (sym e))
-split-other (interval A x y) k e _ _ _ n12 = absurd (n12 (sym e))
+-- any other kind than those of the code's arms has none
+abbrev pub Not : ℕ → List ℕ → Type 0
+Not kind [] = Unit {0}
+Not kind (k ∷ ks) = Not kind ks × ¬ (kind ≡ k)
 
--- any other kind has none
-propagation-other : (l : Constraint) (k : ℕ) → kindOf l ≡ k → ¬ (k ≡ 1) → ¬ (k ≡ 2) → ¬ (k ≡ 3) → ¬ (k ≡ 4) → ¬ (k ≡ 5) → ¬ (k ≡ 7) → ¬ (k ≡ 8) → ¬ (k ≡ 9) → ¬ (k ≡ 10) → ¬ (k ≡ 11) → ¬ (k ≡ 12) → propagationSpan l ≡ (0, 0)
-propagation-other (member t A) k e n1 _ _ _ _ _ _ _ _ _ _ = absurd (n1 (sym e))
-propagation-other (nonmember t A) k e _ n2 _ _ _ _ _ _ _ _ _ = absurd (n2 (sym e))
-propagation-other (same t u) k e _ _ n3 _ _ _ _ _ _ _ _ = absurd (n3 (sym e))
-propagation-other (different t u) k e _ _ _ n4 _ _ _ _ _ _ _ = absurd (n4 (sym e))
-propagation-other (relation equal A B C) k e _ _ _ _ n5 _ _ _ _ _ _ = absurd (n5 (sym e))
-propagation-other (negation unequal A B C w) k e _ _ _ _ _ _ _ _ _ _ _ = refl
-propagation-other (relation union A B C) k e _ _ _ _ _ n7 _ _ _ _ _ = absurd (n7 (sym e))
-propagation-other (relation disjoint A B C) k e _ _ _ _ _ _ n8 _ _ _ _ = absurd (n8 (sym e))
-propagation-other (relation subset A B C) k e _ _ _ _ _ _ _ n9 _ _ _ = absurd (n9 (sym e))
-propagation-other (relation intersection A B C) k e _ _ _ _ _ _ _ _ n10 _ _ = absurd (n10 (sym e))
-propagation-other (exactly A es) k e _ _ _ _ _ _ _ _ _ n11 _ = absurd (n11 (sym e))
-propagation-other (interval A x y) k e _ _ _ _ _ _ _ _ _ _ n12 = absurd (n12 (sym e))
+split-other : (l : Constraint) (kind : ℕ) → Not kind (12 ∷ 11 ∷ 7 ∷ 6 ∷ []) → kindOf l ≡ kind → splitSpan l ≡ (0, 0)
+split-other (member t A) kind n e = refl
+split-other (nonmember t A) kind n e = refl
+split-other (same t u) kind n e = refl
+split-other (different t u) kind n e = refl
+split-other (relation equal A B C) kind n e = refl
+split-other (negation unequal A B C w) kind n e = absurd (n .0 .0 .0 .1 (sym e))
+split-other (relation union A B C) kind n e = absurd (n .0 .0 .1 (sym e))
+split-other (relation disjoint A B C) kind n e = refl
+split-other (relation subset A B C) kind n e = refl
+split-other (relation intersection A B C) kind n e = refl
+split-other (exactly A es) kind n e = absurd (n .0 .1 (sym e))
+split-other (interval A x y) kind n e = absurd (n .1 (sym e))
 
--- as the code comes to them
-pub split-none : (split : Bool) → split ≡ true → (kind : ℕ) → ¬ (kind ≡ 6) → ¬ (kind ≡ 7) → ¬ (kind ≡ 11) → ¬ (kind ≡ 12) → Spanned split kind 0 0
-split-none split e kind n6 n7 n11 n12 l h = rw e (same-pair (0, 0) (splitSpan l) (sym (split-other l kind h n6 n7 n11 n12)))
+propagation-other : (l : Constraint) (kind : ℕ) → Not kind (12 ∷ 11 ∷ 10 ∷ 9 ∷ 8 ∷ 7 ∷ 5 ∷ 4 ∷ 3 ∷ 2 ∷ 1 ∷ []) → kindOf l ≡ kind → propagationSpan l ≡ (0, 0)
+propagation-other (member t A) kind n e = absurd (n .0 .0 .0 .0 .0 .0 .0 .0 .0 .0 .1 (sym e))
+propagation-other (nonmember t A) kind n e = absurd (n .0 .0 .0 .0 .0 .0 .0 .0 .0 .1 (sym e))
+propagation-other (same t u) kind n e = absurd (n .0 .0 .0 .0 .0 .0 .0 .0 .1 (sym e))
+propagation-other (different t u) kind n e = absurd (n .0 .0 .0 .0 .0 .0 .0 .1 (sym e))
+propagation-other (relation equal A B C) kind n e = absurd (n .0 .0 .0 .0 .0 .0 .1 (sym e))
+propagation-other (negation unequal A B C w) kind n e = refl
+propagation-other (relation union A B C) kind n e = absurd (n .0 .0 .0 .0 .0 .1 (sym e))
+propagation-other (relation disjoint A B C) kind n e = absurd (n .0 .0 .0 .0 .1 (sym e))
+propagation-other (relation subset A B C) kind n e = absurd (n .0 .0 .0 .1 (sym e))
+propagation-other (relation intersection A B C) kind n e = absurd (n .0 .0 .1 (sym e))
+propagation-other (exactly A es) kind n e = absurd (n .0 .1 (sym e))
+propagation-other (interval A x y) kind n e = absurd (n .1 (sym e))
 
-pub propagation-none : (split : Bool) → split ≡ false → (kind : ℕ) → ¬ (kind ≡ 1) → ¬ (kind ≡ 2) → ¬ (kind ≡ 3) → ¬ (kind ≡ 4) → ¬ (kind ≡ 5) → ¬ (kind ≡ 7) → ¬ (kind ≡ 8) → ¬ (kind ≡ 9) → ¬ (kind ≡ 10) → ¬ (kind ≡ 11) → ¬ (kind ≡ 12) → Spanned split kind 0 0
-propagation-none split e kind n1 n2 n3 n4 n5 n7 n8 n9 n10 n11 n12 l h = rw e (same-pair (0, 0) (propagationSpan l) (sym (propagation-other l kind h n1 n2 n3 n4 n5 n7 n8 n9 n10 n11 n12)))
+pub split-none : (split : Bool) → split ≡ true → (kind : ℕ) → Not kind (12 ∷ 11 ∷ 7 ∷ 6 ∷ []) → Spanned split kind 0 0
+split-none split e kind n l h = rw e (same-pair (0, 0) (splitSpan l) (sym (split-other l kind n h)))
+
+pub propagation-none : (split : Bool) → split ≡ false → (kind : ℕ) → Not kind (12 ∷ 11 ∷ 10 ∷ 9 ∷ 8 ∷ 7 ∷ 5 ∷ 4 ∷ 3 ∷ 2 ∷ 1 ∷ []) → Spanned split kind 0 0
+propagation-none split e kind n l h = rw e (same-pair (0, 0) (propagationSpan l) (sym (propagation-other l kind n h)))

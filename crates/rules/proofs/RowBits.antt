@@ -21,10 +21,13 @@ use Rattle.calculus.specs.Relations.{operandOf}
 use Rattle.calculus.proofs.RuleLaws.{applies-map}
 use Rattle.bits.proofs.Bits.{bit-without}
 use Rattle.branch.specs.Rows.{known, RowsOf}
+use Rattle.terms.specs.declared.SetVar.{SetVar as SetIndex}
+use Rattle.rules.specs.declared.Literal.{Literal as Coded}
+use Rattle.rules.specs.declared.Row.{Row}
+use Rattle.rules.specs.declared.Split.{Split}
 use Rattle.rules.specs.declared.Child.{Child}
-use Rattle.rules.specs.declared.Denial.{Denial}
-use Rattle.rules.specs.Rows.{numberOf}
-use Rattle.rules.specs.Words.{forcedWord, dividedWord, metWord, LowChild, deniedWord}
+use Rattle.rules.specs.Rows.{numberOf, head, second, last, childAt, lastChild, left, right, laid, parted, child, denying}
+use Rattle.rules.specs.Words.{Low, rowAt, LowRow, LowSplit, LowChild, LowDenial, forcedWord, decidedWord, dividedWord, metWord}
 use Rattle.rules.proofs.Lowest.{at-one}
 
 -- ---- literals: of a term t whose root is h
@@ -52,18 +55,32 @@ module _ (b : Branch) (t h : ℕ) (own : rootAt b t ≡ h) where
     pub applies-at : (r : Rule Literal) → applies (calculus.known b) (at (term t) (operandOf A B C) r) ≡ applies (λ (l : Literal). known b (numberOf (operandOf (A .index) (B .index) (C .index)) l) h) r
     applies-at r = applies-map (factOf (term t) (operandOf A B C)) (calculus.known b) r ∙ ap (λ (f : Literal → Bool). applies f r) (fun-ext literal-known)
 
-pub number-low : (A B C : ℕ) → (A < 8) × (B < 8) × (C < 8) → (l : Literal) → numberOf (operandOf A B C) l < 16
-number-low A B C low (R.In R.A) = omega (arith, low .0)
-number-low A B C low (R.In R.B) = omega (arith, low .1)
-number-low A B C low (R.In R.C) = omega (arith, low .2)
-number-low A B C low (R.Out R.A) = omega (arith, low .0)
-number-low A B C low (R.Out R.B) = omega (arith, low .1)
-number-low A B C low (R.Out R.C) = omega (arith, low .2)
+-- ---- what the code lays out of a rule has rows
 
-pub operand-low : (A B C : ℕ) → (A < 8) × (B < 8) × (C < 8) → (p : Operand) → operandOf A B C p < 8
-operand-low A B C low R.A = low .0
-operand-low A B C low R.B = low .1
-operand-low A B C low R.C = low .2
+module _ (A B C : ℕ) (low : (A < 8) × (B < 8) × (C < 8)) where
+  abbrev S : Operand → ℕ
+  S = operandOf A B C
+
+  operand-low : (p : Operand) → S p < 8
+  operand-low R.A = low .0
+  operand-low R.B = low .1
+  operand-low R.C = low .2
+
+  number-low : (l : Literal) → numberOf S l < 16
+  number-low (R.In p) = omega (arith, operand-low p)
+  number-low (R.Out p) = omega (arith, operand-low p)
+
+  pub laid-low : (r : Rule Literal) → LowRow (laid S r)
+  laid-low r = (number-low (head (r .premises)), number-low (last (r .premises)), number-low (head (childAt 0 r)))
+
+  pub parted-low : (r : Rule Literal) → LowSplit (parted S r)
+  parted-low r = (number-low (head (r .premises)), operand-low (left r), operand-low (right r))
+
+  pub child-low : (ls : List Literal) → LowChild (child S ls)
+  child-low ls = (number-low (head ls), number-low (second ls), number-low (last ls))
+
+  pub denying-low : (r : Rule Literal) → LowDenial (denying S r)
+  denying-low r = (child-low (childAt 0 r), child-low (childAt 1 r), child-low (lastChild r))
 
 -- ---- words
 
@@ -80,67 +97,68 @@ met-root true x y z = refl
 met-root false x y z = refl
 
 module _ (b : Branch) (rows : List ℕ) (of : RowsOf b rows) where
-  abbrev row : ℕ → ℕ
-  row k = getD rows k 0
+  abbrev row : Coded → ℕ
+  row l = rowAt rows l
+
+  small : (l : Coded) → Low l → row l < 2 ^ 64
+  small l = of .small (l .0)
+
+  decided-small : (a : SetIndex) → a .0 < 8 → decidedWord rows a < 2 ^ 64
+  unfolding decidedWord
+  decided-small a l = or-lt 64 (getD rows (a .0) 0) (getD rows (8 + a .0) 0) (of .small (a .0) (omega arith)) (of .small (8 + a .0) (omega arith))
+
+  pub met-small : (c : Child) → LowChild c → metWord rows c < 2 ^ 64
+  unfolding metWord
+  met-small c (p, q, r) = and-lt 64 (bitAnd (row (c .0)) (row (c .1))) (row (c .2)) (and-lt 64 (row (c .0)) (row (c .1)) (small (c .0) p) (small (c .1) q)) (small (c .2) r)
 
   module _ (h : ℕ) (l : h < 64) where
     abbrev own : Bool
     own = eqb (rootAt b h) h
 
-    abbrev K : ℕ → Bool
-    K k = known b k h
+    abbrev K : Coded → Bool
+    K k = known b (k .0) h
 
-    pub forced-bits : (x y z : ℕ) → x < 16 → y < 16 → z < 16 → bit (forcedWord rows x y z) h ≡ (own && ((K x && K y) && not (K z)))
+    says : (k : Coded) → Low k → bit (row k) h ≡ (own && K k)
+    says k p = of .says (k .0) h p l
+
+    pub forced-bits : (r : Row) → LowRow r → bit (forcedWord rows r) h ≡ (own && ((K (r .0) && K (r .1)) && not (K (r .2))))
     unfolding forcedWord
-    forced-bits x y z p q r =
-        bit-without 64 (bitAnd (row x) (row y)) (row z) h (and-lt 64 (row x) (row y) (of .small x p) (of .small y q)) (of .small z r)
-        ∙ ap₂ (λ (m n : Bool). m && not n) (bit-and (row x) (row y) h ∙ ap₂ _&&_ (of .says x h p l) (of .says y h q l)) (of .says z h r l)
-        ∙ forced-root own (K x) (K y) (K z)
+    forced-bits r (x, y, z) =
+        bit-without 64 (bitAnd (row (r .0)) (row (r .1))) (row (r .2)) h (and-lt 64 (row (r .0)) (row (r .1)) (small (r .0) x) (small (r .1) y)) (small (r .2) z)
+        ∙ ap₂ (λ (m n : Bool). m && not n) (bit-and (row (r .0)) (row (r .1)) h ∙ ap₂ _&&_ (says (r .0) x) (says (r .1) y)) (says (r .2) z)
+        ∙ forced-root own (K (r .0)) (K (r .1)) (K (r .2))
 
-    pub divided-bits : (x A B : ℕ) → x < 16 → A < 8 → B < 8 → bit (dividedWord rows x A B) h ≡ (own && (K x && not ((K A || K (8 + A)) || (K B || K (8 + B)))))
+    decided-bits : (a : SetIndex) → a .0 < 8 → bit (decidedWord rows a) h ≡ ((own && known b (a .0) h) || (own && known b (8 + a .0) h))
+    unfolding decidedWord
+    decided-bits a p = bit-or (getD rows (a .0) 0) (getD rows (8 + a .0) 0) h ∙ ap₂ _||_ (of .says (a .0) h (omega arith) l) (of .says (8 + a .0) h (omega arith) l)
+
+    pub divided-bits : (s : Split) → LowSplit s → bit (dividedWord rows s) h ≡ (own && (K (s .0) && not ((known b (s .1 .0) h || known b (8 + s .1 .0) h) || (known b (s .2 .0) h || known b (8 + s .2 .0) h))))
     unfolding dividedWord
-    divided-bits x A B p q r =
-        bit-without 64 (row x) (bitOr (bitOr (row A) (row (8 + A))) (bitOr (row B) (row (8 + B)))) h (of .small x p)
-        (or-lt 64 (bitOr (row A) (row (8 + A))) (bitOr (row B) (row (8 + B))) (or-lt 64 (row A) (row (8 + A)) (small A (omega arith)) (small (8 + A) (omega arith))) (or-lt 64 (row B) (row (8 + B)) (small B (omega arith)) (small (8 + B) (omega arith))))
-        ∙ ap₂ (λ (m n : Bool). m && not n) (of .says x h p l)
-        (bit-or (bitOr (row A) (row (8 + A))) (bitOr (row B) (row (8 + B))) h
-        ∙ ap₂ _||_ (bit-or (row A) (row (8 + A)) h ∙ ap₂ _||_ (of .says A h (omega arith) l) (of .says (8 + A) h (omega arith) l)) (bit-or (row B) (row (8 + B)) h ∙ ap₂ _||_ (of .says B h (omega arith) l) (of .says (8 + B) h (omega arith) l)))
-        ∙ divided-root own (K x) (K A) (K (8 + A)) (K B) (K (8 + B))
-      where
-        small : (k : ℕ) → k < 16 → row k < 2 ^ 64
-        small = of .small
+    divided-bits s (p, q, r) =
+        bit-without 64 (row (s .0)) (bitOr (decidedWord rows (s .1)) (decidedWord rows (s .2))) h (small (s .0) p) (or-lt 64 (decidedWord rows (s .1)) (decidedWord rows (s .2)) (decided-small (s .1) q) (decided-small (s .2) r))
+        ∙ ap₂ (λ (m n : Bool). m && not n) (says (s .0) p) (bit-or (decidedWord rows (s .1)) (decidedWord rows (s .2)) h ∙ ap₂ _||_ (decided-bits (s .1) q) (decided-bits (s .2) r))
+        ∙ divided-root own (K (s .0)) (known b (s .1 .0) h) (known b (8 + s .1 .0) h) (known b (s .2 .0) h) (known b (8 + s .2 .0) h)
 
-    pub met-bits : (c : Child) → LowChild c → bit (metWord rows c) h ≡ (own && ((K (c .first .0) && K (c .second .0)) && K (c .third .0)))
+    pub met-bits : (c : Child) → LowChild c → bit (metWord rows c) h ≡ (own && ((K (c .0) && K (c .1)) && K (c .2)))
     unfolding metWord
     met-bits c (p, q, r) =
-        bit-and (bitAnd (row (c .first .0)) (row (c .second .0))) (row (c .third .0)) h
-        ∙ ap₂ _&&_ (bit-and (row (c .first .0)) (row (c .second .0)) h ∙ ap₂ _&&_ (of .says (c .first .0) h p l) (of .says (c .second .0) h q l)) (of .says (c .third .0) h r l)
-        ∙ met-root own (K (c .first .0)) (K (c .second .0)) (K (c .third .0))
+        bit-and (bitAnd (row (c .0)) (row (c .1))) (row (c .2)) h ∙ ap₂ _&&_ (bit-and (row (c .0)) (row (c .1)) h ∙ ap₂ _&&_ (says (c .0) p) (says (c .1) q)) (says (c .2) r)
+        ∙ met-root own (K (c .0)) (K (c .1)) (K (c .2))
 
-  met-small : (c : Child) → LowChild c → metWord rows c < 2 ^ 64
-  unfolding metWord
-  met-small c (p, q, r) = and-lt 64 (bitAnd (row (c .first .0)) (row (c .second .0))) (row (c .third .0)) (and-lt 64 (row (c .first .0)) (row (c .second .0)) (of .small (c .first .0) p) (of .small (c .second .0) q)) (of .small (c .third .0) r)
+-- one root, but not where a word has it
+pub but-bits : (r w : ℕ) → r < 64 → w < 2 ^ 64 → (h : ℕ) → bit (bitAnd (2 ^ r) (2 ^ 64 - 1 - w)) h ≡ (eqb h r && not (bit w r))
+but-bits r w l s h = bit-without 64 (2 ^ r) w h (pow-lt l) s ∙ ap (λ (q : Bool). q && not (bit w h)) (bit-pow r h) ∙ at-one (λ k. not (bit w k)) h r
 
-  -- one root, but not where a word has it
-  pub but-bits : (r w : ℕ) → r < 64 → w < 2 ^ 64 → (h : ℕ) → bit (bitAnd (2 ^ r) (2 ^ 64 - 1 - w)) h ≡ (eqb h r && not (bit w r))
-  but-bits r w l s h = bit-without 64 (2 ^ r) w h (pow-lt l) s ∙ ap (λ (q : Bool). q && not (bit w h)) (bit-pow r h) ∙ at-one (λ k. not (bit w k)) h r
-
-  -- a negation's split, at root r
-  pub denied-bits : (d : Denial) → LowChild (d .first) → LowChild (d .second) → LowChild (d .third) → (r : ℕ) → r < 64 → (h : ℕ)
-      → bit (deniedWord rows d r) h ≡ (eqb h r && ((not (bit (metWord rows (d .first)) r) && not (bit (metWord rows (d .second)) r)) && not (bit (metWord rows (d .third)) r)))
-  unfolding deniedWord
-  denied-bits d p q s r l h =
-      let x : ℕ = metWord rows (d .first) in
-      let y : ℕ = metWord rows (d .second) in
-      let z : ℕ = metWord rows (d .third) in
-      let one : 2 ^ r < 2 ^ 64 = pow-lt l in
-      let n : (m : ℕ) → 2 ^ 64 - 1 - m < 2 ^ 64 = λ m. omega (arith, one) in
-      let u : bitAnd (2 ^ r) (2 ^ 64 - 1 - x) < 2 ^ 64 = and-lt 64 (2 ^ r) (2 ^ 64 - 1 - x) one (n x) in
-      bit-without 64 (bitAnd (bitAnd (2 ^ r) (2 ^ 64 - 1 - x)) (2 ^ 64 - 1 - y)) z h (and-lt 64 (bitAnd (2 ^ r) (2 ^ 64 - 1 - x)) (2 ^ 64 - 1 - y) u (n y)) (met-small (d .third) s)
-      ∙ ap (λ (t : Bool). t && not (bit z h)) (bit-without 64 (bitAnd (2 ^ r) (2 ^ 64 - 1 - x)) y h u (met-small (d .second) q)
-      ∙ ap (λ (t : Bool). t && not (bit y h)) (bit-without 64 (2 ^ r) x h one (met-small (d .first) p) ∙ ap (λ (t : Bool). t && not (bit x h)) (bit-pow r h)))
-      ∙ three (eqb h r) (not (bit x h)) (not (bit y h)) (not (bit z h)) ∙ at-one (λ k. (not (bit x k) && not (bit y k)) && not (bit z k)) h r
-    where
-      three : (a x y z : Bool) → (((a && x) && y) && z) ≡ (a && ((x && y) && z))
-      three true x y z = refl
-      three false x y z = refl
+-- but not where any of three has it
+pub but-three : (r x y z : ℕ) → r < 64 → x < 2 ^ 64 → y < 2 ^ 64 → z < 2 ^ 64 → (h : ℕ) → bit (bitAnd (bitAnd (bitAnd (2 ^ r) (2 ^ 64 - 1 - x)) (2 ^ 64 - 1 - y)) (2 ^ 64 - 1 - z)) h ≡ (eqb h r && ((not (bit x r) && not (bit y r)) && not (bit z r)))
+but-three r x y z l p q s h =
+    let one : 2 ^ r < 2 ^ 64 = pow-lt l in
+    let n : (m : ℕ) → 2 ^ 64 - 1 - m < 2 ^ 64 = λ m. omega (arith, one) in
+    let u : bitAnd (2 ^ r) (2 ^ 64 - 1 - x) < 2 ^ 64 = and-lt 64 (2 ^ r) (2 ^ 64 - 1 - x) one (n x) in
+    bit-without 64 (bitAnd (bitAnd (2 ^ r) (2 ^ 64 - 1 - x)) (2 ^ 64 - 1 - y)) z h (and-lt 64 (bitAnd (2 ^ r) (2 ^ 64 - 1 - x)) (2 ^ 64 - 1 - y) u (n y)) s
+    ∙ ap (λ (t : Bool). t && not (bit z h)) (bit-without 64 (bitAnd (2 ^ r) (2 ^ 64 - 1 - x)) y h u q ∙ ap (λ (t : Bool). t && not (bit y h)) (bit-without 64 (2 ^ r) x h one p ∙ ap (λ (t : Bool). t && not (bit x h)) (bit-pow r h)))
+    ∙ three (eqb h r) (not (bit x h)) (not (bit y h)) (not (bit z h)) ∙ at-one (λ k. (not (bit x k) && not (bit y k)) && not (bit z k)) h r
+  where
+    three : (a x y z : Bool) → (((a && x) && y) && z) ≡ (a && ((x && y) && z))
+    three true x y z = refl
+    three false x y z = refl

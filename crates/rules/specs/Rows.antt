@@ -1,31 +1,50 @@
 -- The rows of the calculus's tables as the code lays them out.
 use mathlib.Core.Path.{_≡_}
-use mathlib.Core.Bool.{Bool}
+use mathlib.Core.Bool.{Bool, cond}
 use mathlib.Core.List.{List, [], _∷_, _++_}
 use Prim.Native.Nat.{ℕ, _+_, _-_, _≤_, _<_}
 use lib.ListN.{length, getD}
 use lib.Dec.{eqb}
-use Rattle.calculus.specs.Relations.{Rule, propagation, equal, union, disjoint, subset, intersection, unequal, Operand, negationRow}
+use Rattle.calculus.specs.Relations.{Rule, propagation, rows, equal, union, disjoint, subset, intersection, unequal, Operand, operandOf, negationRow}
 use Rattle.calculus.specs.Relations as R
-use Rattle.calculus.specs.Relations.{rows}
+use Rattle.terms.specs.declared.SetVar.{SetVar}
 use Rattle.rules.specs.declared.Literal.{Literal}
 use Rattle.rules.specs.declared.Row.{Row}
 use Rattle.rules.specs.declared.Split.{Split}
 use Rattle.rules.specs.declared.Child.{Child}
 use Rattle.rules.specs.declared.Denial.{Denial}
 
--- the rows of the tables operandOf rule number, from 5 to 18
+-- the rows of the tables by rule number, from 5 to 18
 abbrev pub numbered : ℕ → Rule R.Literal
 numbered j = getD (rows equal ++ negationRow unequal ∷ rows union ++ rows disjoint ++ rows subset ++ rows intersection) (j - 5) (propagation 0 [] (R.In R.A))
 
--- a propagation rule of a relation, with its first two sets
-pub record HasRow (j A B : ℕ) : Type 0 where
+-- the literals of its child c
+abbrev pub literalsOf : (j c : ℕ) → List R.Literal
+literalsOf j c = getD (numbered j .alternatives) c []
+
+-- how many children a rule has: the splits 7 and 12 two, any other but 20 one
+abbrev pub countOf : ℕ → ℕ
+countOf j = cond (eqb j 7) 2 (cond (eqb j 12) 2 1)
+
+-- the numbers of three sets, by operand
+abbrev pub sets : (a b c : SetVar) → Operand → ℕ
+sets a b c = operandOf (a .0) (b .0) (c .0)
+
+-- rule j has a row, or a child n; its first two sets are a and b
+pub record HasRow (j : ℕ) (a b : SetVar) : Type 0 where
   pub low : 5 ≤ j
   pub high : j ≤ 18
   pub no-negation : ¬ (j ≡ 7)
   pub no-split : ¬ (j ≡ 12)
-  pub first-set : A < 8
-  pub second-set : B < 8
+  pub first-set : a .0 < 8
+  pub second-set : b .0 < 8
+
+pub record HasChild (j : ℕ) (a b : SetVar) (n : ℕ) : Type 0 where
+  pub low : 5 ≤ j
+  pub high : j ≤ 18
+  pub first-set : a .0 < 8
+  pub second-set : b .0 < 8
+  pub there : n < length (numbered j .alternatives)
 
 -- the rules of relations that split
 abbrev pub splitting : ℕ → Bool
@@ -50,11 +69,10 @@ second ls = getD ls 1 (head ls)
 abbrev pub last : List R.Literal → R.Literal
 last ls = getD ls (length ls - 1) (R.In R.A)
 
--- a rule's child operandOf number, or else the first
+-- a rule's child by number, or else the first; and its last
 abbrev pub childAt : ℕ → Rule R.Literal → List R.Literal
 childAt c r = getD (r .alternatives) c (getD (r .alternatives) 0 [])
 
--- and its last
 abbrev pub lastChild : Rule R.Literal → List R.Literal
 lastChild r = childAt (length (r .alternatives) - 1) r
 
@@ -63,7 +81,7 @@ literal s l = record { 0 = numberOf s l }
 
 -- a propagation rule: its first and last premise, and what it gives
 abbrev pub laid : (Operand → ℕ) → Rule R.Literal → Row
-laid s r = record { needs = literal s (head (r .premises)); also = literal s (last (r .premises)); gives = literal s (head (childAt 0 r)) }
+laid s r = record { 0 = literal s (head (r .premises)); 1 = literal s (last (r .premises)); 2 = literal s (head (childAt 0 r)) }
 
 -- the set of a split's first child, and the other set of the second
 abbrev pub left : Rule R.Literal → Operand
@@ -74,12 +92,15 @@ right r = operandIn (last (childAt 1 r))
 
 -- a split at any class: its premise, and the two sets
 abbrev pub parted : (Operand → ℕ) → Rule R.Literal → Split
-parted s r = record { needs = literal s (head (r .premises)); left = record { 0 = s (left r) }; right = record { 0 = s (right r) } }
+parted s r = record { 0 = literal s (head (r .premises)); 1 = record { 0 = s (left r) }; 2 = record { 0 = s (right r) } }
 
--- a child operandOf its literals
+-- a child by its literals, and of one alone
 abbrev pub child : (Operand → ℕ) → List R.Literal → Child
-child s ls = record { first = literal s (head ls); second = literal s (second ls); third = literal s (last ls) }
+child s ls = record { 0 = literal s (head ls); 1 = literal s (second ls); 2 = literal s (last ls) }
 
--- a negation's split: how many children, and which
+abbrev pub only : Literal → Child
+only l = record { 0 = l; 1 = l; 2 = l }
+
+-- a negation's split, by its children
 abbrev pub denying : (Operand → ℕ) → Rule R.Literal → Denial
-denying s r = record { count = length (r .alternatives); first = child s (childAt 0 r); second = child s (childAt 1 r); third = child s (lastChild r) }
+denying s r = record { 0 = child s (childAt 0 r); 1 = child s (childAt 1 r); 2 = child s (lastChild r) }

@@ -1,198 +1,213 @@
--- The children of each constraint by number.
-use mathlib.Core.Path.{_≡_, refl, sym, ap, _∙_, subst}
+-- The act of each constraint's child. All but two kinds assert the literals of a child, of one term (record Notes); a rule on sets takes them from its row by number.
+use mathlib.Core.Path.{_≡_, refl, sym, ap, _∙_, subst, fun-ext}
 use mathlib.Core.Logic.{_⊎_, inl, inr, ⊎-elim}
+use mathlib.Core.Bool.{Bool, true, false, cond}
 use mathlib.Core.Option.{none}
-use mathlib.Core.List.{List, [], map}
-use Prim.Native.Nat.{ℕ, _^_, _≤_, _<_}
+use mathlib.Core.List.{List, [], _∷_, map}
+use Prim.Native.Nat.{ℕ, _≤_, _<_}
 use native.Mathlib.Omega.{arith}
-use lib.ListN.{length, getD}
+use lib.ListN.{length, getD, length-map, List·getD-map}
+use lib.Dec.{eqb, ltb}
+use borrow.Author.Tests.{eq-eqb, ne-eqb, ltb-true}
 use Rattle.calculus.specs.Terms.{Term, SetVar, term, setVar}
-use Rattle.calculus.specs.Relations.{Operand, Relation, equal, union, disjoint, subset, intersection, Negation, unequal}
+use Rattle.calculus.specs.Relations.{Rule, Operand, Literal, Relation, operandOf, propagation}
+use Rattle.calculus.specs.Relations as R
 use Rattle.calculus.specs.Meaning as meaning
-use Rattle.calculus.specs.Meaning.{member, nonmember, same, different, relation, negation, exactly, interval, entries}
-use Rattle.calculus.specs.Relations.{operandOf}
-use Rattle.calculus.specs.Branch.{Branch, rootAt, In, Out, Same, assert, assertAll}
+use Rattle.calculus.specs.Meaning.{relation, entries}
+use Rattle.calculus.specs.Branch.{Branch, rootAt, root, In, Same, assert, assertAll}
+use Rattle.calculus.specs.Search.{Move, factOf}
 use Rattle.calculus.specs.Invariants.{Falls}
-use Rattle.branch.specs.Held.{rootOf}
+use Rattle.calculus.proofs.Bools.{and-l, and-r, clash, each-all}
 use Rattle.calculus.proofs.Sequences.{each-at}
+use Rattle.branch.specs.Held.{rootOf}
 use Rattle.branch.proofs.Roots.{root-is}
-use Rattle.branch.proofs.Laws.{assert-any, assert-any-out}
 use Rattle.places.specs.Places.{InSpan, RuleOf, listMove, moveAt}
 use Rattle.places.specs.Alternatives.{slotsOf, childOf}
-use Rattle.places.proofs.Slots.{in-spans}
+use Rattle.places.proofs.Slots.{in-spans, assert-one}
 use Rattle.constraints.specs.declared.Constraint.{Constraint}
 use Rattle.constraints.specs.declared.Constraint.the-variants.{Member, Nonmember, Same as Equated, Different, Related, Negated, Exactly, Interval}
 use Rattle.constraints.specs.declared.Relation.{Relation as CodedRelation}
 use Rattle.constraints.specs.declared.Negation.{Negation as CodedNegation}
+use Rattle.constraints.specs.declared.Negation.the-variants.{Unequal}
 use Rattle.terms.specs.declared.SetVar.{SetVar as CodedSet}
 use Rattle.terms.specs.declared.Term.{Term as CodedTerm}
-use Rattle.constraints.specs.Decoded.{relationOf, negationOf, decoded, Handled}
+use Rattle.constraints.specs.Decoded.{relationOf, decoded, Handled}
+use Rattle.rules.specs.declared.Child.{Child}
+use Rattle.rules.specs.Rows.{numbered, literalsOf, countOf, sets, child, HasChild}
+use Rattle.rules.proofs.Laying.{few, row-counts}
+use Rattle.rules.proofs.TableTests.{row-of}
+use Rattle.rules.proofs.FitLaws.{entries-below}
 use Rattle.step.specs.declared.Act.{Act}
-use Rattle.step.specs.declared.Act.the-variants.{Note, Close}
-use Rattle.step.specs.Numbered.{rowNumbered, literalsOf, maskOf, insOf, outsOf, factsOf, listChild}
-use Rattle.step.specs.Acts.{listsOf, Does, Placed, Acts}
-use Rattle.step.proofs.Asserting.{only-child}
-use Rattle.step.proofs.Rows.{slots-numbered, facts-any, facts-are, masks-are}
-use Rattle.step.proofs.Acting.{root-own, root-in, does-by, close-does, in-does, out-does, literals-does}
-use Rattle.step.proofs.Entries.{entries-below}
-use Rattle.step.proofs.Classes.{entry-place, entry-does}
+use Rattle.step.specs.declared.Act.the-variants.{Close}
+use Rattle.step.specs.Acts.{listsOf, noteOf, joinOf, Placed, Somewhere, Acts, ActsFor}
+use Rattle.step.proofs.Asserting.{literals-any}
+use Rattle.step.proofs.Acting.{root-own, does-by, close-does, note-does, join-does}
 
--- ---- by the constraint
+-- ---- how many children a rule can have
 
-module _ (constants : List Term) (b : Branch) (j p c : ℕ) where
-  member-child : (t : Term) (A : SetVar) → RuleOf (member t A) j → c < slotsOf (member t A) j → childOf constants b (member t A) j p c ≡ assert [] b (In t A)
-  unfolding slotsOf childOf
-  member-child t A r = in-spans (λ j. c < slotsOf (member t A) j → childOf constants b (member t A) j p c ≡ assert [] b (In t A)) (1, 2) (0, 0)
-      ((λ l. only-child constants b (In t A) c l ∙ assert-any constants [] b t A), tt) tt j r
+module _ (es : List ℕ) (l : Constraint) (h : Handled es l) (j : ℕ) where
+  pub slots-20 : j ≡ 20 → slotsOf (decoded (map term es) l) j ≡ length es
+  unfolding slotsOf
+  slots-20 e = rw (eq-eqb j 20 e) (ap length (h .entries-are) ∙ length-map es term)
 
-  nonmember-child : (t : Term) (A : SetVar) → RuleOf (nonmember t A) j → c < slotsOf (nonmember t A) j → childOf constants b (nonmember t A) j p c ≡ assert [] b (Out t A)
-  unfolding slotsOf childOf
-  nonmember-child t A r = in-spans (λ j. c < slotsOf (nonmember t A) j → childOf constants b (nonmember t A) j p c ≡ assert [] b (Out t A)) (2, 3) (0, 0)
-      ((λ l. only-child constants b (Out t A) c l ∙ assert-any-out constants [] b t A), tt) tt j r
+  pub slots-other : ¬ (j ≡ 20) → slotsOf (decoded (map term es) l) j ≡ countOf j
+  unfolding slotsOf
+  slots-other n = rw (ne-eqb j 20 n)
 
-  same-child : (t u : Term) → RuleOf (same t u) j → c < slotsOf (same t u) j → childOf constants b (same t u) j p c ≡ assert constants b (Same t u)
-  unfolding slotsOf childOf
-  same-child t u r = in-spans (λ j. c < slotsOf (same t u) j → childOf constants b (same t u) j p c ≡ assert constants b (Same t u)) (3, 4) (0, 0)
-      (only-child constants b (Same t u) c, tt) tt j r
+pub count-low : (j : ℕ) → countOf j ≤ 2
+count-low j = go (eqb j 7) (eqb j 12)
+  where
+    go : (x y : Bool) → cond x 2 (cond y 2 1) ≤ 2
+    go true y = omega arith
+    go false true = omega arith
+    go false false = omega arith
 
-  different-child : (t u : Term) → RuleOf (different t u) j → childOf constants b (different t u) j p c ≡ none
-  unfolding childOf
-  different-child t u r = in-spans (λ j. childOf constants b (different t u) j p c ≡ none) (4, 5) (0, 0) (refl, tt) tt j r
-
-  -- a relation's rule is that of its number, at root p
-  module _ (x y z : SetVar) where
-    abbrev ByNumber : Relation → ℕ → Type 0
-    ByNumber k j = childOf constants b (relation k x y z) j p c ≡ assertAll [] b (factsOf (term p) x y z j c)
-
-    by-number : (t : Term) (j : ℕ) → assertAll constants b (factsOf t x y z j c) ≡ assertAll [] b (factsOf t x y z j c)
-    by-number t j = facts-any constants b t x y z j c
-
-    relation-child : (k : Relation) → RuleOf (relation k x y z) j → ByNumber k j
-    unfolding childOf rowNumbered
-    relation-child equal = in-spans (ByNumber equal) (5, 7) (0, 0) (by-number (term p) 5, (by-number (term p) 6, tt)) tt j
-    relation-child union = in-spans (ByNumber union) (8, 12) (12, 13) (by-number (term p) 8, (by-number (term p) 9, (by-number (term p) 10, (by-number (term p) 11, tt)))) (by-number (term p) 12, tt) j
-    relation-child disjoint = in-spans (ByNumber disjoint) (13, 15) (0, 0) (by-number (term p) 13, (by-number (term p) 14, tt)) tt j
-    relation-child subset = in-spans (ByNumber subset) (15, 16) (0, 0) (by-number (term p) 15, tt) tt j
-    relation-child intersection = in-spans (ByNumber intersection) (16, 19) (0, 0) (by-number (term p) 16, (by-number (term p) 17, (by-number (term p) 18, tt))) tt j
-
-    -- a negation's, at its witness
-    negation-child : (k : Negation) (w : Term) → RuleOf (negation k x y z w) j → childOf constants b (negation k x y z w) j p c ≡ assertAll [] b (factsOf w x y z j c)
-    unfolding childOf rowNumbered
-    negation-child unequal w r = in-spans (λ j. childOf constants b (negation unequal x y z w) j p c ≡ assertAll [] b (factsOf w x y z j c)) (0, 0) (7, 8) tt (by-number w 7, tt) j r
-
-  -- a list's, and an interval's
-  exactly-child : (A : SetVar) (es : List Term) → RuleOf (exactly A es) j → c < slotsOf (exactly A es) j → childOf constants b (exactly A es) j p c ≡ listChild constants b es A j p c
-  unfolding slotsOf childOf listChild
-  exactly-child A es r = in-spans (λ j. c < slotsOf (exactly A es) j → childOf constants b (exactly A es) j p c ≡ listChild constants b es A j p c) (19, 20) (20, 21)
-      ((λ l. only-child constants b (In (getD es p (term 0)) A) c l ∙ assert-any constants [] b (getD es p (term 0)) A), tt) ((λ l. refl), tt) j r
-
-  interval-child : (A : SetVar) (u v : Term) (es : List Term) → entries u v ≡ es → RuleOf (interval A u v) j → c < slotsOf (interval A u v) j → childOf constants b (interval A u v) j p c ≡ listChild constants b es A j p c
-  unfolding slotsOf childOf
-  interval-child A u v es e r l = exactly-child A (entries u v) r l ∙ ap (λ (ts : List Term). listChild constants b ts A j p c) e
-
--- ---- the rules on sets: their numbers, and those of their children
+-- ---- the rules of each kind
 
 pub relation-range : (k : Relation) (x y z : SetVar) (j : ℕ) → RuleOf (relation k x y z) j → (5 ≤ j) × (j < 19)
-relation-range equal x y z j r = ⊎-elim (λ w. (omega arith, omega arith)) (λ w. (omega arith, omega arith)) r
-relation-range union x y z j r = ⊎-elim (λ w. (omega arith, omega arith)) (λ w. (omega arith, omega arith)) r
-relation-range disjoint x y z j r = ⊎-elim (λ w. (omega arith, omega arith)) (λ w. (omega arith, omega arith)) r
-relation-range subset x y z j r = ⊎-elim (λ w. (omega arith, omega arith)) (λ w. (omega arith, omega arith)) r
-relation-range intersection x y z j r = ⊎-elim (λ w. (omega arith, omega arith)) (λ w. (omega arith, omega arith)) r
+relation-range k x y z j r = let w = row-of k x y z j r in (w .low, omega (arith, w .high))
 
-abbrev Numbered : ℕ → ℕ → Type 0
-Numbered j c = (5 ≤ j) × (j < 19) × (c < length (rowNumbered j .alternatives))
+-- a rule with one child, of a row or of a literal; none of them is 4 or 20
+pub record Plain (j : ℕ) : Type 0 where
+  pub not-20 : eqb j 20 ≡ false
+  pub not-4 : eqb j 4 ≡ false
+  pub once : countOf j ≡ 1
 
-numbered : (l : meaning.Constraint) (j c : ℕ) → (5 ≤ j) × (j < 19) → c < slotsOf l j → Numbered j c
-numbered l j c s n = (s .0, s .1, subst (λ (m : ℕ). c < m) (slots-numbered l j (s .0) (s .1)) n)
-
-pub relation-numbered : (k : Relation) (x y z : SetVar) (j c : ℕ) → RuleOf (relation k x y z) j → c < slotsOf (relation k x y z) j → Numbered j c
-relation-numbered k x y z j c r = numbered (relation k x y z) j c (relation-range k x y z j r)
-
-pub negation-numbered : (k : Negation) (x y z : SetVar) (w : Term) (j c : ℕ) → RuleOf (negation k x y z w) j → c < slotsOf (negation k x y z w) j → Numbered j c
-negation-numbered k x y z w j c r = numbered (negation k x y z w) j c (⊎-elim (λ w. (omega arith, omega arith)) (λ w. (omega arith, omega arith)) r)
-
--- child c of rule j at term t, by its masks
-pub row-does : (ps : List ℕ) → Falls ps → (t : ℕ) → t < 64 → (h : CodedTerm) → h .0 ≡ rootOf ps t → (A B C : SetVar) (j c x y z ins outs : ℕ) → x ≡ 2 ^ A .index → y ≡ 2 ^ B .index → z ≡ 2 ^ C .index
-    → (ins ≡ insOf (maskOf x y z) (literalsOf j c)) × (outs ≡ outsOf (maskOf x y z) (literalsOf j c)) → Does ps (λ ks b. assertAll [] b (factsOf (term t) A B C j c)) (Note h ins outs)
-row-does ps fall t l h e A B C j c x y z ins outs p q r g =
-    let m = masks-are A B C x y z p q r in
-    literals-does ps fall t l h e _ (operandOf A B C) (literalsOf j c) ins outs (g .0 ∙ ap (λ (f : Operand → ℕ). insOf f (literalsOf j c)) m) (g .1 ∙ ap (λ (f : Operand → ℕ). outsOf f (literalsOf j c)) m) (λ ks b. ap (assertAll [] b) (facts-are (term t) A B C j c))
-
--- ---- the code's constraint l is a case m
-
-abbrev Given : List ℕ → Constraint → ℕ → ℕ → Type 0
-Given es m j c = Handled es m × RuleOf (decoded (map term es) m) j × (c < slotsOf (decoded (map term es) m) j)
-
-module _ (es : List ℕ) (l m : Constraint) (e : l ≡ m) (j c : ℕ) where
-  -- what is known of l is known of m
-  pub given : Handled es l → RuleOf (decoded (map term es) l) j → c < slotsOf (decoded (map term es) l) j → Given es m j c
-  given h r n = subst (λ (x : Constraint). Given es x j c) e (h, r, n)
+-- child c of a rule whose alternatives are of literals
+module _ (b : Branch) (l : meaning.Constraint) (j p c : ℕ) (n : eqb j 20 ≡ false) (m : eqb j 4 ≡ false) (t : Term) (s : Operand → SetVar) where
+  child-literals : (rs : List (List Literal)) → moveAt b l j p .1 .alternatives ≡ map (map (factOf t s)) rs → (ks : List Term) → childOf ks b l j p c ≡ assertAll [] b (map (factOf t s) (getD rs c []))
+  unfolding childOf
+  child-literals rs e ks = rw (n, m, e) (ap (assertAll ks b) (List·getD-map (map (factOf t s)) rs c []) ∙ literals-any ks t s (getD rs c []) b)
 
 -- a rule of a list that is not 20 is 19
-pub entry-rule : (j : ℕ) → InSpan (19, 20) j ⊎ InSpan (20, 21) j → ¬ (j ≡ 20) → j ≡ 19
+entry-rule : (j : ℕ) → InSpan (19, 20) j ⊎ InSpan (20, 21) j → ¬ (j ≡ 20) → j ≡ 19
 entry-rule j (inl r) n = omega (arith, r .0, r .1)
 entry-rule j (inr r) n = absurd (n (omega (arith, r .0, r .1)))
 
--- ---- the acts of constraint l at position p, that concern root h; r is the root that the code finds
+-- ---- the code's constraint l is a case m
 
-module _ (ps : List ℕ) (fall : Falls ps) where
-  -- merging with a term is merging with another of its class
-  same-of : (ks : List Term) (b : Branch) (x t u : ℕ) → b .parents ≡ ps → rootOf ps x ≡ rootOf ps t → assert ks b (Same (term t) (term u)) ≡ assert ks b (Same (term x) (term u))
-  unfolding assert
-  same-of ks b x t u q e = let z : rootAt b t ≡ rootAt b x = root-in ps fall b t q ∙ sym e ∙ sym (root-in ps fall b x q) in rw z
+pub at-case : {ps : List ℕ} {l m : Constraint} {j h c : ℕ} → l ≡ m → Somewhere ps l j h c → Somewhere ps m j h c
+at-case {ps} {l} {m} {j} {h} {c} e = subst (λ (x : Constraint). Somewhere ps x j h c) e
 
-module _ (ps es : List ℕ) (fall : Falls ps) (l : Constraint) (j p c h : ℕ) (P : Placed ps es l j p h) (n : c < slotsOf (decoded (map term es) l) j) (r : CodedTerm) (own : r .0 ≡ rootOf ps h) where
-  abbrev Acted : Constraint → Act → Type 0
-  Acted m = Acts ps (decoded (map term es) m) j p c
+pub by-case : {ps : List ℕ} {l m : Constraint} {j h c : ℕ} {a : Act} → l ≡ m → ActsFor ps m j h c a → ActsFor ps l j h c a
+by-case {ps} {l} {m} {j} {h} {c} {a} e = subst (λ (x : Constraint). ActsFor ps x j h c a) (sym e)
 
-  abbrev At : Constraint → Type 0
-  At m = moveAt (listsOf ps [] []) (decoded (map term es) m) j p .0 .index ≡ h
+-- ---- a child of a rule on sets
 
-  -- an act of m is one of l
-  of-case : (m : Constraint) → l ≡ m → (a : Act) → (Given es m j c → At m → Acted m a) → Acted l a
-  of-case m e a f = subst (λ (x : Constraint). Acted x a) (sym e) (f (given es l m e j c (P .handled) (P .ruled) n) (subst At e (P .concerns)))
+negation-rule : {ps es : List ℕ} {j q h : ℕ} {k : CodedNegation} {A B C : CodedSet} {w : CodedTerm} → Placed ps es (Negated k A B C w) j q h → j ≡ 7
+negation-rule P = ⊎-elim (λ w. omega arith) (λ w. omega arith) (P .ruled)
 
+module _ {ps es : List ℕ} {j q h c : ℕ} where
+  row-there : (l : Constraint) → Placed ps es l j q h → 5 ≤ j → j < 19 → c < slotsOf (decoded (map term es) l) j → c < length (numbered j .alternatives)
+  row-there l P x y n = subst (λ (m : ℕ). c < m) (slots-other es l (P .handled) j (λ e. omega arith) ∙ row-counts j x y .0) n
+
+  pub related-child : {k : CodedRelation} {A B C : CodedSet} → Placed ps es (Related k A B C) j q h → c < slotsOf (decoded (map term es) (Related k A B C)) j → HasChild j A B c
+  related-child {k} {A} {B} {C} P n =
+      let r = relation-range (relationOf k) (setVar (A .0)) (setVar (B .0)) (setVar (C .0)) j (P .ruled) in
+      record { low = r .0; high = omega (arith, r .1); first-set = P .handled .in-range .0; second-set = P .handled .in-range .1; there = row-there (Related k A B C) P (r .0) (r .1) n }
+
+  pub negated-child : {k : CodedNegation} {A B C : CodedSet} {w : CodedTerm} → Placed ps es (Negated k A B C w) j q h → c < slotsOf (decoded (map term es) (Negated k A B C w)) j → HasChild j A B c
+  negated-child {k} {A} {B} {C} {w} P n =
+      let e = negation-rule P in
+      record { low = omega arith; high = omega arith; first-set = P .handled .in-range .0 .0; second-set = P .handled .in-range .0 .1; there = row-there (Negated k A B C w) P (omega arith) (omega arith) n }
+
+-- ---- the acts of rule j at position q, that concern root h; r is the root that the code finds
+
+module _ (ps : List ℕ) (fall : Falls ps) (j h c : ℕ) (r : CodedTerm) (own : r .0 ≡ rootOf ps h) where
   -- r is the root of a term of that class
   its-root : (t : ℕ) → rootAt (listsOf ps [] []) t ≡ h → r .0 ≡ rootOf ps t
   its-root t w = own ∙ ap (rootOf ps) (sym w ∙ root-is (listsOf ps [] []) t) ∙ root-own ps fall t
 
-  module _ (t : CodedTerm) (A : CodedSet) (m : ℕ) (o : m ≡ 2 ^ (A .0)) where
-    pub member-acts : l ≡ Member t A → Acted l (Note r m 0)
-    member-acts e = of-case (Member t A) e (Note r m 0) (λ g w. in-does ps fall (t .0) (g .0 .in-range .0) r (its-root (t .0) w) _ (A .0) m o (λ k b. member-child k b j p c (term (t .0)) (setVar (A .0)) (g .1) (g .2)))
+  module _ (es : List ℕ) (q : ℕ) where
+    -- child c asserts literals of term t
+    record Notes (m : Constraint) (t : ℕ) (s : Operand → SetVar) (rs : List (List Literal)) : Type 0 where
+      low : t < 64
+      at : r .0 ≡ rootOf ps t
+      bounded : (o : Operand) → s o .index < 8
+      not-20 : eqb j 20 ≡ false
+      not-4 : eqb j 4 ≡ false
+      small : few (getD rs c []) ≡ true
+      offers : (b : Branch) → b .parents ≡ ps → moveAt b (decoded (map term es) m) j q .1 .alternatives ≡ map (map (factOf (term t) s)) rs
 
-    pub nonmember-acts : l ≡ Nonmember t A → Acted l (Note r 0 m)
-    nonmember-acts e = of-case (Nonmember t A) e (Note r 0 m) (λ g w. out-does ps fall (t .0) (g .0 .in-range .0) r (its-root (t .0) w) _ (A .0) m o (λ k b. nonmember-child k b j p c (term (t .0)) (setVar (A .0)) (g .1) (g .2)))
+    notes-acts : (m : Constraint) (t : ℕ) (s : Operand → SetVar) (rs : List (List Literal)) → Notes m t s rs → (x : Child) → x ≡ child (λ (o : Operand). s o .index) (getD rs c []) → Acts ps (decoded (map term es) m) j q c (noteOf r x)
+    notes-acts m t s rs N x e =
+        let xs : List Literal = getD rs c [] in
+        let some : 0 < length xs = ltb-true 0 (length xs) (and-l (ltb 0 (length xs)) (ltb (length xs) 4) (N .small)) in
+        let less : length xs < 4 = ltb-true (length xs) 4 (and-r (ltb 0 (length xs)) (ltb (length xs) 4) (N .small)) in
+        does-by ps fall _ _ (noteOf r x) (λ ks b y. child-literals b (decoded (map term es) m) j q c (N .not-20) (N .not-4) (term t) s rs (N .offers b y) ks)
+        (note-does ps fall t (N .low) r (N .at) s (N .bounded) xs some (omega arith) x e)
 
-  pub same-acts : (t u : CodedTerm) → l ≡ Equated t u → (a : Act) → Does ps (λ k b. assert k b (Same (term (r .0)) (term (u .0)))) a → Acted l a
-  same-acts t u e a d = of-case (Equated t u) e a (λ g w. does-by ps fall _ _ a (λ k b z. same-child k b j p c (term (t .0)) (term (u .0)) (g .1) (g .2) ∙ same-of ps fall k b (r .0) (t .0) (u .0) z (ap (rootOf ps) (its-root (t .0) w) ∙ root-own ps fall (t .0))) d)
+    -- of a rule with one child, of one literal
+    one-acts : (m : Constraint) → Placed ps es m j q h → c < slotsOf (decoded (map term es) m) j → (t : ℕ) → t < 64 → r .0 ≡ rootOf ps t → (A : SetVar) → A .index < 8 → Plain j → (o : Literal) → ((b : Branch) → b .parents ≡ ps → moveAt b (decoded (map term es) m) j q .1 .alternatives ≡ (factOf (term t) (λ _. A) o ∷ []) ∷ []) → (x : Child) → x ≡ child (λ _. A .index) (o ∷ []) → Acts ps (decoded (map term es) m) j q c (noteOf r x)
+    one-acts m P n t lt at A la pl o f x e =
+        let z : c ≡ 0 = omega (arith, n, slots-other es m (P .handled) j (λ w. clash (eq-eqb j 20 w) (pl .not-20)), pl .once) in
+        notes-acts m t (λ _. A) ((o ∷ []) ∷ []) record { low = lt; at = at; bounded = λ _. la; not-20 = pl .not-20; not-4 = pl .not-4; small = rw z; offers = f } x (rw z e)
 
-  pub different-acts : (t u : CodedTerm) → l ≡ Different t u → Acted l Close
-  different-acts t u e = of-case (Different t u) e Close (λ g w. close-does ps fall _ (λ k b z. different-child k b j p c (term (t .0)) (term (u .0)) (g .1)))
+    -- of a rule on sets, by its row
+    row-acts : (m : Constraint) (A B C : CodedSet) → Placed ps es m j q h → HasChild j A B c → C .0 < 8 → (t : ℕ) → t < 64 → r .0 ≡ rootOf ps t → ((b : Branch) → b .parents ≡ ps → moveAt b (decoded (map term es) m) j q .1 .alternatives ≡ map (map (factOf (term t) (operandOf (setVar (A .0)) (setVar (B .0)) (setVar (C .0))))) (numbered j .alternatives)) → (x : Child) → x ≡ child (sets A B C) (literalsOf j c) → Acts ps (decoded (map term es) m) j q c (noteOf r x)
+    row-acts m A B C P H lc t lt at f x e = notes-acts m t (operandOf (setVar (A .0)) (setVar (B .0)) (setVar (C .0))) (numbered j .alternatives) record {
+      low = lt;
+      at = at;
+      bounded = bounds;
+      not-20 = ne-eqb j 20 (λ w. omega (arith, H .high));
+      not-4 = ne-eqb j 4 (λ w. omega (arith, H .low));
+      small = each-at (λ (xs : List Literal). few xs ≡ true) (numbered j .alternatives) [] (each-all few (numbered j .alternatives) (row-counts j (H .low) (omega (arith, H .high)) .1)) c (H .there);
+      offers = f;
+    } x (e ∙ ap (λ (s : Operand → ℕ). child s (literalsOf j c)) (fun-ext same))
+      where
+        bounds : (o : Operand) → operandOf (setVar (A .0)) (setVar (B .0)) (setVar (C .0)) o .index < 8
+        bounds R.A = H .first-set
+        bounds R.B = H .second-set
+        bounds R.C = lc
 
-  -- by the masks of the tables
-  module _ (A B C : CodedSet) where
-    abbrev noted : Act
-    noted = Note r (insOf (maskOf (2 ^ (A .0)) (2 ^ (B .0)) (2 ^ (C .0))) (literalsOf j c)) (outsOf (maskOf (2 ^ (A .0)) (2 ^ (B .0)) (2 ^ (C .0))) (literalsOf j c))
+        same : (o : Operand) → sets A B C o ≡ operandOf (setVar (A .0)) (setVar (B .0)) (setVar (C .0)) o .index
+        same R.A = refl
+        same R.B = refl
+        same R.C = refl
 
-    row-at : (t : ℕ) → t < 64 → r .0 ≡ rootOf ps t → Does ps (λ ks b. assertAll [] b (factsOf (term t) (setVar (A .0)) (setVar (B .0)) (setVar (C .0)) j c)) noted
-    row-at t l q = row-does ps fall t l r q (setVar (A .0)) (setVar (B .0)) (setVar (C .0)) j c _ _ _ _ _ refl refl refl (refl, refl)
+    -- of an entry
+    entry-acts : (m : Constraint) → Placed ps es m j q h → c < slotsOf (decoded (map term es) m) j → (A : CodedSet) → A .0 < 8 → j ≡ 19 → (ts : List Term) → ts ≡ map term es → ((b : Branch) → moveAt b (decoded (map term es) m) j q ≡ listMove b (setVar (A .0)) ts j q) → (x : Child) → x ≡ child (λ _. A .0) (R.In R.A ∷ []) → Acts ps (decoded (map term es) m) j q c (noteOf r x)
+    entry-acts m P n A la e ts z f =
+        let move : (b : Branch) → moveAt b (decoded (map term es) m) j q ≡ (root b (term (getD es q 0)), propagation 19 [] (In (term (getD es q 0)) (setVar (A .0)))) = λ b. f b ∙ rw (e, z, List·getD-map term es q 0) in
+        one-acts m P n (getD es q 0) (each-at (λ (x : ℕ). x < 64) es 0 (entries-below es m (P .handled)) q (P .of-entry e))
+        (its-root (getD es q 0) (ap (λ (w : Term × Move). w .0 .index) (sym (move (listsOf ps [] []))) ∙ P .concerns)) (setVar (A .0)) la (rw e record { not-20 = refl; not-4 = refl; once = refl }) (R.In R.A) (λ b _. ap (λ (w : Term × Move). w .1 .alternatives) (move b))
 
-    pub relation-acts : (k : CodedRelation) → l ≡ Related k A B C → (a : Act) → a ≡ noted → Acted l a
-    relation-acts k e a z = subst (Acted l) (sym z) (of-case (Related k A B C) e noted (λ g w. does-by ps fall _ _ noted (λ i b y. relation-child i b j p c (setVar (A .0)) (setVar (B .0)) (setVar (C .0)) (relationOf k) (g .1)) (row-at p (omega (arith, w, P .low)) (own ∙ ap (rootOf ps) (sym w)))))
+  pub member-acts : (t : CodedTerm) (A : CodedSet) (x : Child) → x ≡ child (λ _. A .0) (R.In R.A ∷ []) → ActsFor ps (Member t A) j h c (noteOf r x)
+  member-acts t A x e es q P n = one-acts es q (Member t A) P n (t .0) (P .handled .in-range .0) (its-root (t .0) (P .concerns)) (setVar (A .0)) (P .handled .in-range .1) (in-spans Plain (1, 2) (0, 0) (record { not-20 = refl; not-4 = refl; once = refl }, tt) tt j (P .ruled)) (R.In R.A) (λ b _. refl) x e
 
-    -- a negation's, at its witness
-    pub negation-acts : (k : CodedNegation) (v : CodedTerm) → l ≡ Negated k A B C v → (a : Act) → a ≡ noted → Acted l a
-    negation-acts k v e a z = subst (Acted l) (sym z) (of-case (Negated k A B C v) e noted (λ g w. does-by ps fall _ _ noted (λ i b y. negation-child i b j p c (setVar (A .0)) (setVar (B .0)) (setVar (C .0)) (negationOf k) (term (v .0)) (g .1)) (row-at (v .0) (g .0 .in-range .1) (its-root (v .0) w))))
+  pub nonmember-acts : (t : CodedTerm) (A : CodedSet) (x : Child) → x ≡ child (λ _. A .0) (R.Out R.A ∷ []) → ActsFor ps (Nonmember t A) j h c (noteOf r x)
+  nonmember-acts t A x e es q P n = one-acts es q (Nonmember t A) P n (t .0) (P .handled .in-range .0) (its-root (t .0) (P .concerns)) (setVar (A .0)) (P .handled .in-range .1) (in-spans Plain (2, 3) (0, 0) (record { not-20 = refl; not-4 = refl; once = refl }, tt) tt j (P .ruled)) (R.Out R.A) (λ b _. refl) x e
 
-  -- rule 19 of a list, and of an interval
-  module _ (A : CodedSet) (m : ℕ) (o : m ≡ 2 ^ (A .0)) (no : ¬ (j ≡ 20)) where
-    entry-acts : j ≡ 19 → listMove (listsOf ps [] []) (setVar (A .0)) (map term es) j p .0 .index ≡ h → Does ps (λ k b. listChild k b (map term es) (setVar (A .0)) j p c) (Note r m 0)
-    entry-acts e w = entry-does ps es fall (setVar (A .0)) j p c e (each-at (λ (x : ℕ). x < 64) es 0 (entries-below es l (P .handled)) p (P .of-entry e)) r (its-root (getD es p 0) (sym (entry-place ps es (setVar (A .0)) j p e) ∙ w)) m o
+  pub related-acts : (k : CodedRelation) (A B C : CodedSet) (x : Child) → x ≡ child (sets A B C) (literalsOf j c) → ActsFor ps (Related k A B C) j h c (noteOf r x)
+  related-acts k A B C x e es q P n = row-acts es q (Related k A B C) A B C P (related-child P n) (P .handled .in-range .2) q (omega (arith, P .concerns, P .low)) (own ∙ ap (rootOf ps) (sym (P .concerns)))
+      (λ b _. ap (λ (w : Rule Literal). map (map (factOf (term q) (operandOf (setVar (A .0)) (setVar (B .0)) (setVar (C .0))))) (w .alternatives)) (row-of (relationOf k) (setVar (A .0)) (setVar (B .0)) (setVar (C .0)) j (P .ruled) .is)) x e
 
-    pub exactly-acts : l ≡ Exactly A → Acted l (Note r m 0)
-    exactly-acts e = of-case (Exactly A) e (Note r m 0) (λ g w. does-by ps fall _ _ (Note r m 0) (λ k b z. exactly-child k b j p c (setVar (A .0)) (map term es) (g .1) (g .2)) (entry-acts (entry-rule j (g .1) no) w))
+  pub negated-acts : (k : CodedNegation) (A B C : CodedSet) (v : CodedTerm) (x : Child) → x ≡ child (sets A B C) (literalsOf j c) → ActsFor ps (Negated k A B C v) j h c (noteOf r x)
+  negated-acts Unequal A B C v x e es q P n = row-acts es q (Negated Unequal A B C v) A B C P (negated-child P n) (P .handled .in-range .0 .2) (v .0) (P .handled .in-range .1) (its-root (v .0) (P .concerns)) (λ b _. rw (negation-rule P)) x e
 
-    pub interval-acts : (t u : CodedTerm) → l ≡ Interval A t u → Acted l (Note r m 0)
-    interval-acts t u e = of-case (Interval A t u) e (Note r m 0) (λ g w. does-by ps fall _ _ (Note r m 0)
-        (λ k b z. interval-child k b j p c (setVar (A .0)) (term (t .0)) (term (u .0)) (map term es) (g .0 .entries-are) (g .1) (g .2))
-        (entry-acts (entry-rule j (g .1) no) (subst (λ (ts : List Term). listMove (listsOf ps [] []) (setVar (A .0)) ts j p .0 .index ≡ h) (g .0 .entries-are) w)))
+  pub exactly-acts : ¬ (j ≡ 20) → (A : CodedSet) (x : Child) → x ≡ child (λ _. A .0) (R.In R.A ∷ []) → ActsFor ps (Exactly A) j h c (noteOf r x)
+  exactly-acts n20 A x e es q P n = entry-acts es q (Exactly A) P n A (P .handled .in-range .0) (entry-rule j (P .ruled) n20) (map term es) refl (λ b. refl) x e
+
+  pub interval-acts : ¬ (j ≡ 20) → (A : CodedSet) (t u : CodedTerm) (x : Child) → x ≡ child (λ _. A .0) (R.In R.A ∷ []) → ActsFor ps (Interval A t u) j h c (noteOf r x)
+  interval-acts n20 A t u x e es q P n = entry-acts es q (Interval A t u) P n A (P .handled .in-range .0) (entry-rule j (P .ruled) n20) (entries (term (t .0)) (term (u .0))) (P .handled .entries-are) (λ b. refl) x e
+
+  -- merging with a term is merging with another of its class
+  pub same-acts : (t u k : CodedTerm) → k .0 ≡ rootOf ps (u .0) → ActsFor ps (Equated t u) j h c (joinOf r k)
+  unfolding childOf
+  same-acts t u k d es q P n = does-by ps fall _ _ (joinOf r k) (λ ks b y. first ks b) (join-does ps fall (t .0) (u .0) (P .handled .in-range .0) (P .handled .in-range .1) r k (its-root (t .0) (P .concerns)) d)
+    where
+      pl : Plain j
+      pl = in-spans Plain (3, 4) (0, 0) (record { not-20 = refl; not-4 = refl; once = refl }, tt) tt j (P .ruled)
+
+      z : c ≡ 0
+      z = omega (arith, n, slots-other es (Equated t u) (P .handled) j (λ w. clash (eq-eqb j 20 w) (pl .not-20)), pl .once)
+
+      first : (ks : List Term) (b : Branch) → childOf ks b (decoded (map term es) (Equated t u)) j q c ≡ assert ks b (Same (term (t .0)) (term (u .0)))
+      first ks b = rw (pl .not-20, pl .not-4, z) (assert-one ks b (Same (term (t .0)) (term (u .0))))
+
+  pub different-acts : (t u : CodedTerm) → ActsFor ps (Different t u) j h c Close
+  unfolding childOf
+  different-acts t u es q P n = close-does ps fall _ (λ ks b y. none-here ks b)
+    where
+      none-here : (ks : List Term) (b : Branch) → childOf ks b (decoded (map term es) (Different t u)) j q c ≡ none
+      none-here ks b = in-spans (λ j. childOf ks b (decoded (map term es) (Different t u)) j q c ≡ none) (4, 5) (0, 0) (refl, tt) tt j (P .ruled)
