@@ -1,1 +1,4 @@
-
+pub mod Sayings
+pub mod Growing
+pub mod Keeping
+pub mod Waking
