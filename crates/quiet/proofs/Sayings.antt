@@ -1,19 +1,19 @@
--- Rules that are tried at every root, as rules on what is said of one class: a literal by its number, or that a term is in the class.
-use mathlib.Core.Path.{_≡_, refl, sym, ap, ap₂, _∙_}
+-- A rule as a rule on what is said of one class: a literal by its number, or that a term is in the class.
+use mathlib.Core.Path.{_≡_, sym, ap, ap₂, _∙_}
 use mathlib.Core.Bool.{Bool, true, false, _&&_, _||_, not}
 use mathlib.Core.List.{List, [], _∷_, map}
-use Prim.Native.Nat.{ℕ, _+_, _<_}
+use Prim.Native.Nat.{ℕ, _<_}
 use lib.Dec.{eqb}
 use Rattle.calculus.specs.Lists.{all, any}
 use Rattle.calculus.specs.Terms.{Term, SetVar, term}
-use Rattle.calculus.specs.Relations.{Rule, Literal, applies, propagation, mapRule, operandOf}
-use Rattle.calculus.specs.Branch.{Branch, rootAt, In, Out, Same, known}
+use Rattle.calculus.specs.Relations.{Rule, Literal, applies, mapRule, operandOf}
+use Rattle.calculus.specs.Branch.{Branch, rootAt, Same, known}
 use Rattle.calculus.specs.Search.{at, choose}
 use Rattle.calculus.proofs.Bools.{any-map}
 use Rattle.calculus.proofs.RuleLaws.{applies-map}
 use Rattle.branch.specs.Rows as rows
 use Rattle.rules.specs.Rows.{numberOf}
-use Rattle.rules.proofs.RowBits.{known-in, known-out, applies-at}
+use Rattle.rules.proofs.RowBits.{known-in, applies-at}
 
 pub data Saying : Type 0 where
   literal : ℕ → Saying
@@ -23,25 +23,24 @@ abbrev pub says : Branch → ℕ → Saying → Bool
 says b h (literal k) = rows.known b k h
 says b h (holds u) = eqb h (rootAt b (u .index))
 
--- a row of the tables, and rule 20
+-- a literal of a row, a row of the tables, and rule 20
+abbrev pub literalOf : (A B C : SetVar) → Literal → Saying
+literalOf A B C x = literal (numberOf (operandOf (A .index) (B .index) (C .index)) x)
+
 abbrev pub tabled : (A B C : SetVar) → Rule Literal → Rule Saying
-tabled A B C r = mapRule (λ (x : Literal). literal (numberOf (operandOf (A .index) (B .index) (C .index)) x)) r
+tabled A B C r = mapRule (literalOf A B C) r
 
 abbrev pub chosen : SetVar → List Term → Rule Saying
 chosen A es = record { rule = 20; premises = literal (A .index) ∷ []; blockers = map (λ (e : Term). holds e ∷ []) es; alternatives = [] }
 
--- a propagation rule without premises
-module _ (b : Branch) (j : ℕ) (t : Term) (A : SetVar) (low : A .index < 8) where
-  pub in-said : applies (known b) (propagation j [] (In t A)) ≡ applies (says b (rootAt b (t .index))) (propagation j [] (literal (A .index)))
-  in-said = ap (λ (x : Bool). not ((x && true) || false)) (known-in b (t .index) (rootAt b (t .index)) refl A low)
-
-  pub out-said : applies (known b) (propagation j [] (Out t A)) ≡ applies (says b (rootAt b (t .index))) (propagation j [] (literal (8 + A .index)))
-  out-said = ap (λ (x : Bool). not ((x && true) || false)) (known-out b (t .index) (rootAt b (t .index)) refl A low)
+-- a rule that one fact blocks
+pub once : {x y : Bool} → x ≡ y → not ((x && true) || false) ≡ not ((y && true) || false)
+once e = ap (λ (z : Bool). not ((z && true) || false)) e
 
 -- at a term t whose root is h
 module _ (b : Branch) (t h : ℕ) (own : rootAt b t ≡ h) where
   pub tabled-said : (A B C : SetVar) → (A .index < 8) × (B .index < 8) × (C .index < 8) → (r : Rule Literal) → applies (known b) (at (term t) (operandOf A B C) r) ≡ applies (says b h) (tabled A B C r)
-  tabled-said A B C low r = applies-at b t h own A B C low r ∙ sym (applies-map (λ (x : Literal). literal (numberOf (operandOf (A .index) (B .index) (C .index)) x)) (says b h) r)
+  tabled-said A B C low r = applies-at b t h own A B C low r ∙ sym (applies-map (literalOf A B C) (says b h) r)
 
   pub chosen-said : (A : SetVar) → A .index < 8 → (es : List Term) → applies (known b) (choose [] b A es (term t)) ≡ applies (says b h) (chosen A es)
   chosen-said A low es = ap₂ (λ (x y : Bool). (x && true) && not y) (known-in b t h own A low)

@@ -1,6 +1,6 @@
--- A note and a merge grow a branch, so a mask that has the constraints they can wake leaves out only idle ones.
-use mathlib.Core.Path.{_≡_, refl, sym, ap, ap₂, _∙_}
-use mathlib.Core.Logic.{_⊎_, inl, inr}
+-- A note and a merge each grow a branch. With the constraints that it can wake added to a mask, those left out stay idle.
+use mathlib.Core.Path.{_≡_, refl, sym, ap, _∙_}
+use mathlib.Core.Logic.{inl, inr}
 use mathlib.Core.Bool.{Bool, true, false, _&&_, _||_}
 use mathlib.Core.List.{List}
 use Prim.Native.Nat.{ℕ, _+_, _<_, _≤_}
@@ -15,15 +15,14 @@ use Rattle.calculus.specs.Meaning.{Constraint}
 use Rattle.calculus.specs.Branch.{rootAt}
 use Rattle.calculus.specs.Branch as calculus
 use Rattle.calculus.specs.Invariants.{ConstraintIn}
-use Rattle.calculus.proofs.Bools.{or-none-l, or-none-r, clash, test}
+use Rattle.calculus.proofs.Bools.{or-none-l, or-none-r, clash}
 use Rattle.calculus.proofs.Masks.{bit-or, bit-zero}
 use Rattle.problem.specs.Table.{noConstraint}
 use Rattle.branch.specs.declared.Branch.{Branch}
 use Rattle.branch.specs.Rows.{known, literals}
 use Rattle.branch.specs.Held.{held, noting, merging, Sound}
 use Rattle.branch.proofs.Rowing.{noted-known, merged-root, merged-known}
-use Rattle.places.specs.Places.{RuleOf}
-use Rattle.quiet.specs.Quiet.{Quiet, needs, pairs, WordsOf}
+use Rattle.quiet.specs.Quiet.{Quiet, pairs, WordsOf}
 use Rattle.quiet.proofs.Growing.{Grows, moved-none}
 use Rattle.quiet.proofs.Keeping.{Spared, idle-kept}
 
@@ -39,6 +38,10 @@ absorbed true y z w f = refl
 absorbed false false z w f = refl
 absorbed false true true w f = refl
 absorbed false true false w f = sym (f refl)
+
+unless : (x : Bool) {y : Bool} → (x ≡ true → y ≡ true) → y ≡ false → x ≡ false
+unless true f e = clash (f refl) e
+unless false f e = refl
 
 module _ {cs : List Term} {b : Branch} (s : Sound cs b) where
   pub noted-grows : {h : ℕ} (ins outs : ℕ) → h < 64 → rootAt (held b) h ≡ h → Grows (held b) (held (noting b h ins outs .branch)) h h (literals ins outs)
@@ -65,23 +68,19 @@ module _ {n : ℕ} {ls : List Constraint} {words : List ℕ} (d : Watched n ls w
       let z : (bit mask i || bit woken i) ≡ false = sym (bit-or mask woken i) ∙ e in
       idle-kept g (f i l (or-none-r (bit mask i) (bit woken i) z)) split (q i l (or-none-l (bit mask i) (bit woken i) z))
 
-  unless : (x : Bool) {y : Bool} → (x ≡ true → y ≡ true) → y ≡ false → x ≡ false
-  unless true f e = clash (f refl) e
-  unless false f e = refl
-
   module _ {cs : List Term} {b : Branch} (s : Sound cs b) where
     pub quiet-noted : {h : ℕ} (ins outs : ℕ) → h < 64 → rootAt (held b) h ≡ h → ((k i : ℕ) → k < 16 → bit (literals ins outs) k ≡ true → bit (getD words (48 + k) 0) i ≡ true → bit woken i ≡ true)
         → Quiet split n ls (held b) mask → Quiet split n ls (held (noting b h ins outs .branch)) (bitOr mask woken)
     quiet-noted ins outs l e f = quiet-kept (noted-grows s ins outs l e) (λ i li q. record {
       in-range = d .in-range i li;
-      unneeded = λ j k lk o p. unless (needs (getD ls i noConstraint) j k) (λ r. f k i lk p (d .words-are .needing i li j k o r)) q;
-      unpaired = inl refl;
+      unneeded = λ j k lk o r. unless (bit (literals ins outs) k) (λ p. f k i lk p (d .words-are .needing i li j k o r)) q;
+      unpaired = λ j o. inl refl;
     })
 
     pub quiet-merged : {lo hi : ℕ} → lo < hi → hi < n → rootAt (held b) lo ≡ lo → rootAt (held b) hi ≡ hi → ((i : ℕ) → bit (getD words 64 0) i ≡ true → bit woken i ≡ true)
         → Quiet split n ls (held b) mask → Quiet split n ls (held (merging b lo hi .branch)) (bitOr mask woken)
     quiet-merged l h el eh f = quiet-kept (merged-grows s l (omega (arith, d .few)) el eh) (λ i li q. record {
       in-range = d .in-range i li;
-      unneeded = λ j k lk o p. clash p (bit-zero k);
-      unpaired = inr (h, λ j o. unless (pairs (getD ls i noConstraint) j) (λ r. f i (d .words-are .paired i li j o r)) q);
+      unneeded = λ j k lk o r. bit-zero k;
+      unpaired = λ j o. inr (h, unless (pairs (getD ls i noConstraint) j) (λ r. f i (d .words-are .paired i li j o r)) q);
     })
