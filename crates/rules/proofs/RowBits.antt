@@ -66,7 +66,7 @@ module _ (A B C : ℕ) (low : (A < 8) × (B < 8) × (C < 8)) where
   operand-low R.B = low .1
   operand-low R.C = low .2
 
-  number-low : (l : Literal) → numberOf S l < 16
+  pub number-low : (l : Literal) → numberOf S l < 16
   number-low (R.In p) = omega (arith, operand-low p)
   number-low (R.Out p) = omega (arith, operand-low p)
 
