@@ -11,7 +11,7 @@ ghost use Rattle.calculus.specs.Lists.{Each};
 ghost use Rattle.branch.specs.Held.{rootOf};
 ghost use Rattle.rules.specs.Spans.{Spanned};
 ghost use Rattle.rules.specs.Rows.{sets, numbered, HasRow, HasChild, laid, parted, only, child, literalsOf, countOf, denying};
-ghost use Rattle.rules.specs.Words.{Rooted, Lent, Long, Low, rowAt, LowRow, LowSplit, LowChild, LowDenial, forcedWord, decidedWord, dividedWord, metWord, deniedWord, RootBits, missed, EntryBits, Listing, Asked, FitsFor};
+ghost use Rattle.rules.specs.Words.{Rooted, Lent, Long, Low, rowAt, LowRow, LowSplit, LowChild, LowDenial, forcedWord, dividedWord, metWord, deniedWord, RootBits, missed, EntryBits, Listing, Asked, FitsFor};
 
 // A literal, by its number: k is "in set k", 8 + k is "out of set k".
 pub struct Literal(pub u8);
@@ -163,20 +163,14 @@ fn forced(rows: &[u64], r: Row) -> u64
     of(rows, r.0) & of(rows, r.1) & !of(rows, r.2)
 }
 
-// The roots of which it is known whether they are in a set.
-fn decided(rows: &[u64], a: SetVar) -> u64
-    requires { ⌜ Long (now rows) × (a .0 < 8) ⌝ }
-    ensures { λ w. ⌜ w ≡ decidedWord (now (rows .entry)) a ⌝ }
-{
-    of(rows, Literal(a.0)) | of(rows, Literal(8 + a.0))
-}
-
 // The roots at which a split applies.
 fn divided(rows: &[u64], s: Split) -> u64
     requires { ⌜ Long (now rows) × LowSplit s ⌝ }
     ensures { λ w. ⌜ w ≡ dividedWord (now (rows .entry)) s ⌝ }
 {
-    of(rows, s.0) & !(decided(rows, s.1) | decided(rows, s.2))
+    let left = of(rows, Literal(s.1.0)) | of(rows, Literal(8 + s.1.0));
+    let right = of(rows, Literal(s.2.0)) | of(rows, Literal(8 + s.2.0));
+    of(rows, s.0) & !(left | right)
 }
 
 // The roots of which all literals of a child are known.
