@@ -25,7 +25,7 @@ pub struct Span {
 // A propagation rule, at any class: two literals that it needs known (the same twice, if it needs but one), and the one that it gives.
 pub struct Row(pub Literal, pub Literal, pub Literal);
 
-// A split, at any class: a literal that it needs known, and two sets, left and right, that it needs undecided. The first child is in the left set; the second is out of it, and in the right one.
+// A split, at any class: a literal that it needs known, and two sets, left and right, that it needs undecided. One child is in the left set; the other is out of it, and in the right one.
 pub struct Split(pub Literal, pub SetVar, pub SetVar);
 
 // A child, by its literals: of two the last stands again, of one all are the same.
@@ -235,7 +235,7 @@ pub fn entry_bits(list: &[u8]) -> u64
     found
 }
 
-// Rules 19 and 20, of a set and its entries. Where a row has all entries, each is a root in the set, and a root that is an entry is in its own class: most searches end there.
+// Rules 19 and 20, of a set and its entries. Where the row has all entries, each is a root in the set; a root that is an entry is in its own class. Most searches end there.
 fn listing(parents: &[u8], rows: &[u64], list: &[u8], entries: u64, a: SetVar, rule: u8) -> u64
     requires { ⌜ Lent (now parents) (now rows) × EntryBits (now list) entries × (a .0 < 8) ⌝ }
     ensures { λ r. ⌜ Listing (now (parents .entry)) (rowAt (now (rows .entry)) (record { 0 = a .0 })) (now (list .entry)) rule r ⌝ }
