@@ -1,6 +1,6 @@
 -- The word that the code makes for a rule of a constraint has as its lowest bit the root of the first place where the rule applies.
 use mathlib.Core.Path.{_≡_, refl, sym, _∙_, ap, ap₂, subst, fun-ext}
-use mathlib.Core.Bool.{Bool, true, false, _&&_, _||_, not, cond, and-true, or-false}
+use mathlib.Core.Bool.{Bool, true, false, _&&_, _||_, not, cond, and-true, and-assoc, or-false}
 use mathlib.Core.Option.{some, Option·map}
 use mathlib.Core.List.{List, [], _∷_, map}
 use Prim.Native.Nat.{ℕ, _+_, _-_, _^_, _<_, _≤_}
@@ -19,7 +19,7 @@ use Rattle.calculus.specs.Branch.{Branch, rootAt, root, In, Out, Same}
 use Rattle.calculus.specs.Branch as calculus
 use Rattle.calculus.specs.Invariants.{Falls}
 use Rattle.calculus.specs.Search.{Move, choose, at}
-use Rattle.calculus.proofs.Bools.{clash, and-l, any-map}
+use Rattle.calculus.proofs.Bools.{clash, and-l, any-map, map-Each}
 use Rattle.calculus.proofs.Masks.{bit-and, bit-pow, bit-zero}
 use Rattle.calculus.proofs.SearchLaws.{first-stop, first-next}
 use Rattle.calculus.specs.Relations.{operandOf}
@@ -49,7 +49,7 @@ use Rattle.rules.proofs.TableTests.{row-of, denied-row, forcedTest, div
 use Rattle.rules.proofs.Lowest.{at-one, first-fails, first-map, map-map, first-range, single, one-fits, roots-fits}
 use Rattle.rules.proofs.RowBits.{known-in, known-out, applies-at, laid-low, parted-low, denying-low, forced-bits, divided-bits, met-bits, met-small, but-bits, but-three}
 
--- ---- the word of rule j, operandOf the decoded constraint: over parents, rows and entries
+-- ---- the word of rule j, by the decoded constraint: over parents, rows and entries
 
 module _ (ps rows es : List ℕ) (j : ℕ) where
   abbrev pub IsWord : Coded → ℕ → Type 0
@@ -210,13 +210,9 @@ module _ (n : ℕ) (b : Branch) (rows : List ℕ) (of : RowsOf b rows) (fall : F
           let m : (p : ℕ) → moveAt b l j p ≡ (term p, choose [] b A (map term es) (term p)) = λ p. move p ∙ ap (λ (x : Bool). cond x (G (getD (map term es) p (term 0))) (term p, choose [] b A (map term es) (term p))) t in
           roots-fits n b l j few (at ∙ ap (λ (x : Bool). cond x (upFrom 0 (length (map term es))) (roots n b)) t) (λ p. ap (λ (x : Term × Move). x .0 .index) (m p)) w
           (λ h k. f .of-20 of-roots q h k ∙ ap (λ (x : Bool). x && not (any (λ (e : ℕ). eqb (rt e) h) es)) (of .says (A .index) h (omega arith) k)
-          ∙ assoc (eqb (rootAt b h) h) (known b (A .index) h) (not (any (λ (e : ℕ). eqb (rt e) h) es))
+          ∙ and-assoc (eqb (rootAt b h) h) (known b (A .index) h) (not (any (λ (e : ℕ). eqb (rt e) h) es))
           ∙ root-bits (eqb (rootAt b h) h) (known b (A .index) h && not (any (λ (e : ℕ). eqb (rt e) h) es)) (applies (calculus.known b) (moveAt b l j h .1))
           (λ z. sym (ap (λ (x : Term × Move). applies (calculus.known b) (x .1)) (m h) ∙ chosen h (eqb-true (rootAt b h) h z) es)))
-        where
-          assoc : (x y z : Bool) → ((x && y) && z) ≡ (x && (y && z))
-          assoc true y z = refl
-          assoc false y z = refl
 
       list-fits : Fits n b l j w
       list-fits = go (ℕ-discrete j 19)
@@ -228,8 +224,7 @@ module _ (n : ℕ) (b : Branch) (rows : List ℕ) (of : RowsOf b rows) (fall : F
 -- ---- every constraint
 
 each-term : (n : ℕ) (es : List ℕ) → Each (λ (e : Term). e .index < n) (map term es) → Each (λ e. e < n) es
-each-term n [] e = tt
-each-term n (x ∷ es) e = (e .0, each-term n es (e .1))
+each-term n = map-Each (λ (e : Term). e .index < n) term
 
 fits-of : (n : ℕ) (b : Branch) (rows es : List ℕ) (j : ℕ) → RowsOf b rows → Falls (b .parents) → n ≤ 64 → (l : Coded) → entriesOf (decoded (map term es) l) ≡ map term es → ConstraintIn n 8 (decoded (map term es) l) → RuleOf (decoded (map term es) l) j → (w : ℕ) → IsWord (b .parents) rows es j l w → Fits n b (decoded (map term es) l) j w
 fits-of n b rows es j of fall few (Member t A) q c r w i =

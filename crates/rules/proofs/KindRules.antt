@@ -1,4 +1,4 @@
--- The rules of a constraint, operandOf its kind.
+-- The rules of a constraint, by its kind: the code's pairs are a table's, and the table is the calculus's spans.
 use mathlib.Core.Path.{_≡_, refl, sym, ap, _∙_}
 use mathlib.Core.Bool.{Bool, true, false}
 use mathlib.Core.List.{List, [], _∷_}

@@ -1,4 +1,4 @@
--- The bits of the words that the code makes of a branch's rows.
+-- The bits of the words that the code makes of a branch's rows: bit h is the code's test at root h, since each row's bit says that h is a root and the literal known.
 use mathlib.Core.Path.{_≡_, refl, sym, _∙_, ap, ap₂, fun-ext}
 use mathlib.Core.Bool.{Bool, true, false, _&&_, _||_, not, cond}
 use mathlib.Core.List.{List}
@@ -51,7 +51,7 @@ module _ (b : Branch) (t h : ℕ) (own : rootAt b t ≡ h) where
     literal-known (R.Out R.B) = known-out B (low .1)
     literal-known (R.Out R.C) = known-out C (low .2)
 
-    -- a rule applies there operandOf its literals' numbers
+    -- a rule applies there by its literals' numbers
     pub applies-at : (r : Rule Literal) → applies (calculus.known b) (at (term t) (operandOf A B C) r) ≡ applies (λ (l : Literal). known b (numberOf (operandOf (A .index) (B .index) (C .index)) l) h) r
     applies-at r = applies-map (factOf (term t) (operandOf A B C)) (calculus.known b) r ∙ ap (λ (f : Literal → Bool). applies f r) (fun-ext literal-known)
 

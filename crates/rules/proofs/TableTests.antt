@@ -1,8 +1,8 @@
--- The rows of the tables against what the code lays out of them: each rule operandOf one computed test over all that can be known.
+-- The rows of the tables against what the code lays out of them: each rule by one computed test over all that can be known.
 use mathlib.Core.Path.{_≡_, refl, sym, _∙_, ap, fun-ext}
 use mathlib.Core.Logic.{inl, inr}
 use mathlib.Core.Bool.{Bool, true, false, _&&_, _||_, not}
-use mathlib.Core.List.{List, [], _∷_}
+use mathlib.Core.List.{List}
 use Prim.Native.Nat.{ℕ, _+_, _<_, _≤_}
 use native.Mathlib.Omega.{arith}
 use lib.ListN.{length}
@@ -77,13 +77,6 @@ agrees-at t r e f = ap (λ (g : Literal → Bool). applies g r) (sym (by-known f
 
 -- ---- the tables
 
--- a propagation rule's only child has what it gives; a split's children are in the left set, or out of it and in the right one
-abbrev Gives : Rule Literal → Type 0
-Gives r = r .alternatives ≡ (head (childAt 0 r) ∷ []) ∷ []
-
-abbrev Parts : Rule Literal → Type 0
-Parts r = r .alternatives ≡ (R.In (left r) ∷ []) ∷ (R.Out (left r) ∷ R.In (right r) ∷ []) ∷ []
-
 -- a relation's rule is its number's row, and the code's test of it is right: one for propagation rules, another for splits
 pub record Row (k : Relation) (j : ℕ) : Type 0 where
   pub is : rowOf k j ≡ numbered j
@@ -91,22 +84,20 @@ pub record Row (k : Relation) (j : ℕ) : Type 0 where
   pub high : j ≤ 18
   pub no-seven : ¬ (j ≡ 7)
   pub forced : splitting j ≡ false → (f : Literal → Bool) → applies f (numbered j) ≡ forcedTest f (numbered j)
-  pub gives : splitting j ≡ false → Gives (numbered j)
   pub divided : splitting j ≡ true → (f : Literal → Bool) → applies f (numbered j) ≡ dividedTest f (numbered j)
-  pub parts : splitting j ≡ true → Parts (numbered j)
 
-forced-row : (k : Relation) (j : ℕ) → rowOf k j ≡ numbered j → 5 ≤ j → j ≤ 18 → ¬ (j ≡ 7) → splitting j ≡ false → agrees forcedTest (numbered j) ≡ true → Gives (numbered j) → Row k j
-forced-row k j e l h n m t g = record { is = e; low = l; high = h; no-seven = n; forced = λ _. agrees-at forcedTest (numbered j) t; gives = λ _. g; divided = λ z. clash z m; parts = λ z. clash z m }
+forced-row : (k : Relation) (j : ℕ) → rowOf k j ≡ numbered j → 5 ≤ j → j ≤ 18 → ¬ (j ≡ 7) → splitting j ≡ false → agrees forcedTest (numbered j) ≡ true → Row k j
+forced-row k j e l h n m t = record { is = e; low = l; high = h; no-seven = n; forced = λ _. agrees-at forcedTest (numbered j) t; divided = λ z. clash z m }
 
-divided-row : (k : Relation) (j : ℕ) → rowOf k j ≡ numbered j → 5 ≤ j → j ≤ 18 → ¬ (j ≡ 7) → splitting j ≡ true → agrees dividedTest (numbered j) ≡ true → Parts (numbered j) → Row k j
-divided-row k j e l h n m t g = record { is = e; low = l; high = h; no-seven = n; forced = λ z. clash m z; gives = λ z. clash m z; divided = λ _. agrees-at dividedTest (numbered j) t; parts = λ _. g }
+divided-row : (k : Relation) (j : ℕ) → rowOf k j ≡ numbered j → 5 ≤ j → j ≤ 18 → ¬ (j ≡ 7) → splitting j ≡ true → agrees dividedTest (numbered j) ≡ true → Row k j
+divided-row k j e l h n m t = record { is = e; low = l; high = h; no-seven = n; forced = λ z. clash m z; divided = λ _. agrees-at dividedTest (numbered j) t }
 
 table : (k : Relation) → Each (Row k) (upFrom (firstRow k) (length (rows k)))
-table equal = (forced-row equal 5 refl (omega arith) (omega arith) (omega arith) refl refl refl, (forced-row equal 6 refl (omega arith) (omega arith) (omega arith) refl refl refl, tt))
-table union = (forced-row union 8 refl (omega arith) (omega arith) (omega arith) refl refl refl, (forced-row union 9 refl (omega arith) (omega arith) (omega arith) refl refl refl, (forced-row union 10 refl (omega arith) (omega arith) (omega arith) refl refl refl, (forced-row union 11 refl (omega arith) (omega arith) (omega arith) refl refl refl, (divided-row union 12 refl (omega arith) (omega arith) (omega arith) refl refl refl, tt)))))
-table disjoint = (forced-row disjoint 13 refl (omega arith) (omega arith) (omega arith) refl refl refl, (forced-row disjoint 14 refl (omega arith) (omega arith) (omega arith) refl refl refl, tt))
-table subset = (forced-row subset 15 refl (omega arith) (omega arith) (omega arith) refl refl refl, tt)
-table intersection = (forced-row intersection 16 refl (omega arith) (omega arith) (omega arith) refl refl refl, (forced-row intersection 17 refl (omega arith) (omega arith) (omega arith) refl refl refl, (forced-row intersection 18 refl (omega arith) (omega arith) (omega arith) refl refl refl, tt)))
+table equal = (forced-row equal 5 refl (omega arith) (omega arith) (omega arith) refl refl, (forced-row equal 6 refl (omega arith) (omega arith) (omega arith) refl refl, tt))
+table union = (forced-row union 8 refl (omega arith) (omega arith) (omega arith) refl refl, (forced-row union 9 refl (omega arith) (omega arith) (omega arith) refl refl, (forced-row union 10 refl (omega arith) (omega arith) (omega arith) refl refl, (forced-row union 11 refl (omega arith) (omega arith) (omega arith) refl refl, (divided-row union 12 refl (omega arith) (omega arith) (omega arith) refl refl, tt)))))
+table disjoint = (forced-row disjoint 13 refl (omega arith) (omega arith) (omega arith) refl refl, (forced-row disjoint 14 refl (omega arith) (omega arith) (omega arith) refl refl, tt))
+table subset = (forced-row subset 15 refl (omega arith) (omega arith) (omega arith) refl refl, tt)
+table intersection = (forced-row intersection 16 refl (omega arith) (omega arith) (omega arith) refl refl, (forced-row intersection 17 refl (omega arith) (omega arith) (omega arith) refl refl, (forced-row intersection 18 refl (omega arith) (omega arith) (omega arith) refl refl, tt)))
 
 -- a rule of a relation is one of its rows
 in-rows : (k : Relation) (A B C : SetVar) (j : ℕ) → RuleOf (relation k A B C) j → (firstRow k ≤ j) × (j < firstRow k + length (rows k))

@@ -11,7 +11,7 @@ ghost use Rattle.calculus.specs.Lists.{Each};
 ghost use Rattle.branch.specs.Held.{rootOf};
 ghost use Rattle.rules.specs.Spans.{Spanned};
 ghost use Rattle.rules.specs.Rows.{sets, numbered, HasRow, HasChild, laid, parted, only, child, literalsOf, countOf, denying};
-ghost use Rattle.rules.specs.Words.{Rooted, Lent, Long, Low, rowAt, LowRow, LowSplit, LowChild, LowDenial, forcedWord, decidedWord, dividedWord, metWord, deniedWord, RootBits, missed, EntryBits, Listing, Asked, FitsFor};
+ghost use Rattle.rules.specs.Words.{Rooted, Lent, Long, Low, rowAt, LowRow, LowSplit, LowChild, LowDenial, forcedWord, dividedWord, metWord, deniedWord, RootBits, missed, EntryBits, Listing, Asked, FitsFor};
 
 // A literal, by its number: k is "in set k", 8 + k is "out of set k".
 pub struct Literal(pub u8);
@@ -25,7 +25,7 @@ pub struct Span {
 // A propagation rule, at any class: two literals that it needs known (the same twice, if it needs but one), and the one that it gives.
 pub struct Row(pub Literal, pub Literal, pub Literal);
 
-// A split, at any class: a literal that it needs known, and two sets, left and right, that it needs undecided. The first child is in the left set; the second is out of it, and in the right one.
+// A split, at any class: a literal that it needs known, and two sets, left and right, that it needs undecided. One child is in the left set; the other is out of it, and in the right one.
 pub struct Split(pub Literal, pub SetVar, pub SetVar);
 
 // A child, by its literals: of two the last stands again, of one all are the same.
@@ -163,20 +163,14 @@ fn forced(rows: &[u64], r: Row) -> u64
     of(rows, r.0) & of(rows, r.1) & !of(rows, r.2)
 }
 
-// The roots of which it is known whether they are in a set.
-fn decided(rows: &[u64], a: SetVar) -> u64
-    requires { ⌜ Long (now rows) × (a .0 < 8) ⌝ }
-    ensures { λ w. ⌜ w ≡ decidedWord (now (rows .entry)) a ⌝ }
-{
-    of(rows, Literal(a.0)) | of(rows, Literal(8 + a.0))
-}
-
 // The roots at which a split applies.
 fn divided(rows: &[u64], s: Split) -> u64
     requires { ⌜ Long (now rows) × LowSplit s ⌝ }
     ensures { λ w. ⌜ w ≡ dividedWord (now (rows .entry)) s ⌝ }
 {
-    of(rows, s.0) & !(decided(rows, s.1) | decided(rows, s.2))
+    let left = of(rows, Literal(s.1.0)) | of(rows, Literal(8 + s.1.0));
+    let right = of(rows, Literal(s.2.0)) | of(rows, Literal(8 + s.2.0));
+    of(rows, s.0) & !(left | right)
 }
 
 // The roots of which all literals of a child are known.
@@ -241,7 +235,7 @@ pub fn entry_bits(list: &[u8]) -> u64
     found
 }
 
-// Rules 19 and 20, of a set and its entries. Where a row has all entries, each is a root in the set, and a root that is an entry is in its own class: most searches end there.
+// Rules 19 and 20, of a set and its entries. Where the row has all entries, each is a root in the set; a root that is an entry is in its own class. Most searches end there.
 fn listing(parents: &[u8], rows: &[u64], list: &[u8], entries: u64, a: SetVar, rule: u8) -> u64
     requires { ⌜ Lent (now parents) (now rows) × EntryBits (now list) entries × (a .0 < 8) ⌝ }
     ensures { λ r. ⌜ Listing (now (parents .entry)) (rowAt (now (rows .entry)) (record { 0 = a .0 })) (now (list .entry)) rule r ⌝ }

@@ -32,8 +32,10 @@ use Rattle.constraints.specs.declared.Negation.the-variants.{Unequal}
 use Rattle.terms.specs.declared.SetVar.{SetVar as CodedSet}
 use Rattle.terms.specs.declared.Term.{Term as CodedTerm}
 use Rattle.constraints.specs.Decoded.{relationOf, decoded, Handled}
+use Rattle.rules.specs.declared.Literal.{Literal as Lit}
 use Rattle.rules.specs.declared.Child.{Child}
-use Rattle.rules.specs.Rows.{numbered, literalsOf, countOf, sets, child, HasChild}
+use Rattle.rules.specs.Rows.{numbered, literalsOf, countOf, sets, child, only, HasChild}
+use Rattle.rules.specs.Words.{LowChild}
 use Rattle.rules.proofs.Laying.{few, row-counts}
 use Rattle.rules.proofs.TableTests.{row-of}
 use Rattle.rules.proofs.FitLaws.{entries-below}
@@ -91,6 +93,10 @@ at-case {ps} {l} {m} {j} {h} {c} e = subst (λ (x : Constraint). Somewhere ps x 
 
 pub by-case : {ps : List ℕ} {l m : Constraint} {j h c : ℕ} {a : Act} → l ≡ m → ActsFor ps m j h c a → ActsFor ps l j h c a
 by-case {ps} {l} {m} {j} {h} {c} {a} e = subst (λ (x : Constraint). ActsFor ps x j h c a) (sym e)
+
+-- the child of one literal has a row
+pub one-low : {l : Lit} {x : Child} → x ≡ only l → l .0 < 16 → LowChild x
+one-low e k = subst LowChild (sym e) (k, k, k)
 
 -- ---- a child of a rule on sets
 

@@ -18,18 +18,25 @@ Inv-loop insides outsides rows fixed p i opposite found₀ k₀ found k = (k ≤
 abbrev μ-loop : tie.MeasureT-loop
 μ-loop insides outsides rows fixed p i opposite found₀ k₀ found k = 16 - k
 
+-- the start, from a turn of the loop and from its end
+abbrev turn : tie.In-loop Inv-loop μ-loop → tie.Start Inv-loop μ-loop
+turn c = c .before .before .before .before .before .before .before .before
+
+abbrev start : tie.After-loop Inv-loop μ-loop → tie.Start Inv-loop μ-loop
+start c = c .before .before .before .before .before .before .before .before
+
 loop-again : tie.Need-loop-again Inv-loop μ-loop
 loop-again c =
-    let s = c .before .before .before .before .before .before .before .before .before .before in
+    let s = turn (c .before .before) in
     let v = c .before .before .before .loop in
     let e = c .before .has-bit .ensures in
     (omega arith, λ h. ⊎-elim (λ w. ap (λ (n : ℕ). bit n h) (w .2) ∙ clash-take (s .args .rows .now) _ _ (v .k) (v .found) (v .inv .1) (sym e ∙ w .0 .taken) h) (λ w. ap (λ (n : ℕ). bit n h) (w .1) ∙ clash-skip (s .args .rows .now) _ _ (v .k) (v .found) (v .inv .1) (sym e ∙ w .0 .left) h) (c .if1 .came))
 
 returns : tie.Need-returns Inv-loop μ-loop
-returns c = let s = c .before .before .before .before .before .before .before .before .before .before in let v = c .before .before .before .loop in λ h. apart-fixed (v .found) (s .args .fixed) (s .args .p .0) h _ _ (clash-all _ _ _ (v .k) (v .found) (v .inv .0) (c .before .before .loop-test .left) (v .inv .1) h) (c .before .has-bit2 .ensures) (c .if2 .taken)
+returns c = let s = start (c .before .before) in let v = c .before .before .before .loop in λ h. apart-fixed (v .found) (s .args .fixed) (s .args .p .0) h _ _ (clash-all _ _ _ (v .k) (v .found) (v .inv .0) (c .before .before .loop-test .left) (v .inv .1) h) (c .before .has-bit2 .ensures) (c .if2 .taken)
 
 returns-2 : tie.Need-returns-2 Inv-loop μ-loop
-returns-2 c = let s = c .before .before .before .before .before .before .before .before .before .before in let v = c .before .before .before .loop in λ h. apart-free (v .found) (s .args .fixed) (s .args .p .0) h _ _ (clash-all _ _ _ (v .k) (v .found) (v .inv .0) (c .before .before .loop-test .left) (v .inv .1) h) (c .before .has-bit2 .ensures) (c .if2 .left)
+returns-2 c = let s = start (c .before .before) in let v = c .before .before .before .loop in λ h. apart-free (v .found) (s .args .fixed) (s .args .p .0) h _ _ (clash-all _ _ _ (v .k) (v .found) (v .inv .0) (c .before .before .loop-test .left) (v .inv .1) h) (c .before .has-bit2 .ensures) (c .if2 .left)
 
 pub apart-spec : {M : Type 1} → statement M
 apart-spec =
