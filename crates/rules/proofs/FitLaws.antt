@@ -278,19 +278,22 @@ denied-word {l} {k} {A} {B} {C} e rows w h x q f = f ∙ ap (λ (x : Denial). de
     seven : (k : CodedNegation) → numbered 7 ≡ negationRow (negationOf k)
     seven Unequal = refl
 
--- the entries are terms below 64
-entries-in : (l : Constraint) → ConstraintIn 64 8 l → Each (λ (e : Term). e .index < 64) (entriesOf l)
-entries-in (member t A) c = tt
-entries-in (nonmember t A) c = tt
-entries-in (same t u) c = tt
-entries-in (different t u) c = tt
-entries-in (relation k A B C) c = tt
-entries-in (negation k A B C w) c = tt
-entries-in (exactly A es) c = c .1
-entries-in (interval A x y) c = c .1
+-- the entries are terms below n, and so below 64
+entries-in : (n : ℕ) (l : Constraint) → ConstraintIn n 8 l → Each (λ (e : Term). e .index < n) (entriesOf l)
+entries-in n (member t A) c = tt
+entries-in n (nonmember t A) c = tt
+entries-in n (same t u) c = tt
+entries-in n (different t u) c = tt
+entries-in n (relation k A B C) c = tt
+entries-in n (negation k A B C w) c = tt
+entries-in n (exactly A es) c = c .1
+entries-in n (interval A x y) c = c .1
+
+pub entries-low : (n : ℕ) (es : List ℕ) (l : Coded) → Handled es l → ConstraintIn n 8 (decoded (map term es) l) → Each (λ e. e < n) es
+entries-low n es l h c = each-term n es (subst (Each (λ (e : Term). e .index < n)) (h .entries-are) (entries-in n (decoded (map term es) l) c))
 
 pub entries-below : (es : List ℕ) (l : Coded) → Handled es l → Each (λ e. e < 64) es
-entries-below es l h = each-term 64 es (subst (Each (λ (e : Term). e .index < 64)) (h .entries-are) (entries-in (decoded (map term es) l) (h .in-range)))
+entries-below es l h = entries-low 64 es l h (h .in-range)
 
 -- the number of a relation's rule
 pub related-number : {es : List ℕ} {word j : ℕ} {l : Coded} {k : CodedRelation} {A B C : CodedSet} → l ≡ Related k A B C → Asked es word l j → ¬ (j ≡ 12) → HasRow j A B

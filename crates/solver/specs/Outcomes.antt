@@ -1,11 +1,11 @@
 -- What working a branch comes to.
 use mathlib.Core.Path.{_≡_}
-use mathlib.Core.Bool.{false, true}
+use mathlib.Core.Bool.{Bool, false, true, _&&_}
 use mathlib.Core.Option.{none}
 use mathlib.Core.List.{List, [], _∷_, map}
-use Prim.Native.Nat.{ℕ, suc, _*_, _-_, _≤_, _<_}
+use Prim.Native.Nat.{ℕ, suc, _+_, _*_, _-_, _≤_, _<_}
 use lib.ListN.{length, getD}
-use Rattle.calculus.specs.Lists.{upFrom, gather, picked}
+use Rattle.calculus.specs.Lists.{upFrom, any, gather, picked, bit}
 use Rattle.calculus.specs.Terms.{Term, term, termsFrom}
 use Rattle.calculus.specs.Meaning.{Constraint}
 use Rattle.calculus.specs.Branch as calculus
@@ -17,15 +17,28 @@ use Rattle.problem.specs.declared.Table.{Table}
 use Rattle.problem.specs.Table.{constraintsOf, noConstraint}
 use Rattle.branch.specs.declared.Branch.{Branch}
 use Rattle.branch.specs.Held.{held, restrict, Sound}
+use Rattle.branch.specs.Rows.{literals}
 use Rattle.constraints.specs.Decoded.{decoded, Unpacked}
 use Rattle.places.specs.Alternatives.{slotsOf, childOf}
 use Rattle.search.specs.declared.Found.{Found}
 use Rattle.search.specs.First.{firstPlace, found, spot, Located}
+use Rattle.step.specs.declared.Act.{Act}
+use Rattle.step.specs.declared.Act.the-variants.{Note, Merge, Close}
 use Rattle.step.specs.Left.{Left}
+use Rattle.quiet.specs.Quiet.{Quiet}
 use Rattle.output.specs.declared.Counts.{Counts}
 use Rattle.output.specs.State.{State, state, play, left, Fine}
 use Rattle.solver.specs.declared.Inferred.{Inferred}
 use Rattle.solver.specs.declared.Split.{Split}
+
+-- constraint i is woken by an act: by a note if it needs a literal of the masks, by a merge if two facts of one class can wake it
+abbrev pub wokenBy : List ℕ → Act → ℕ → Bool
+wokenBy words (Note h ins outs) i = any (λ (k : ℕ). bit (literals ins outs) k && bit (getD words (48 + k) 0) i) (upFrom 0 16)
+wokenBy words (Merge lo hi) i = bit (getD words 64 0) i
+wokenBy words Close i = false
+
+abbrev pub Wakes : List ℕ → Act → ℕ → Type 0
+Wakes words a word = (i : ℕ) → bit word i ≡ wokenBy words a i
 
 -- the problem's terms, of which the constants are the lowest, and its constraints
 module _ (bs : List ℕ) (tab : Table) where
@@ -76,14 +89,22 @@ module _ (bs : List ℕ) (tab : Table) where
   abbrev pub Settled : Branch → Type 0
   Settled b = firstPlace false (tab .terms) constraints (held b) ≡ none
 
+  -- the branch can be worked: it is sound, and propagation rules and splits of the constraints that are not in the two masks do not apply
+  pub record Ready (b : Branch) (wake ripe : ℕ) : Type 0 where
+    pub sound : Sound constants b
+    pub propagation : Quiet false (tab .terms) constraints (held b) wake
+    pub splits : Quiet true (tab .terms) constraints (held b) ripe
+    pub wake-low : (i : ℕ) → bit wake i ≡ true → i < tab .constraints
+    pub ripe-low : (i : ℕ) → bit ripe i ≡ true → i < tab .constraints
+
   -- the branch is settled and its first split that applies was found, at a root; the word has the children that are left
-  pub record Splits (s : Split) : Type 0 where
-    pub sound : Sound constants (s .branch)
-    pub settled : Settled (s .branch)
+  pub record Splits (b : Branch) (s : Split) : Type 0 where
+    pub ready : Ready b (s .run .wake) (s .run .ripe)
+    pub settled : Settled b
     pub some-rule : ¬ (s .found .rule ≡ 0)
-    pub first-is : firstPlace true (tab .terms) constraints (held (s .branch)) ≡ found constraints (held (s .branch)) (spot (s .found) (s .found .root .0))
-    pub located : Located true (tab .terms) constraints (held (s .branch)) (s .found) (s .found .root .0)
-    pub left : (es : List ℕ) → Unpacked bs (s .found .number) es (s .found .constraint) → Left constants (held (s .branch)) (decoded (map term es) (s .found .constraint)) es (s .found .rule) (s .found .root .0) 0 (s .left)
+    pub first-is : firstPlace true (tab .terms) constraints (held b) ≡ found constraints (held b) (spot (s .found) (s .found .root .0))
+    pub located : Located true (tab .terms) constraints (held b) (s .found) (s .found .root .0)
+    pub left : (es : List ℕ) → Unpacked bs (s .found .number) es (s .found .constraint) → Left constants (held b) (decoded (map term es) (s .found .constraint)) es (s .found .rule) (s .found .root .0) 0 (s .left)
 
 -- the run goes on, its steps are within the budget, and the trace buffer has room for them all
 pub record Going (budget : ℕ) (c : Counts) (trace : List ℕ) : Type 0 where
@@ -109,6 +130,7 @@ pub record Reached (bs : List ℕ) (tab : Table) (budget : ℕ) (b : Branch) (c 
 -- propagation steps were taken until none applies (settled), or until the branch closed or the budget was spent
 pub record Settles (bs : List ℕ) (tab : Table) (budget : ℕ) (b : Branch) (c : Counts) (trace : List ℕ) (r : Inferred) (after : List ℕ) : Type 0 where
   pub reached : r .settled ≡ true → Reached bs tab budget b c trace (r .branch) (r .counts) after
+  pub ready : r .settled ≡ true → Ready bs tab (r .branch) 0 (r .ripe)
   pub none-applies : r .settled ≡ true → Settled bs tab (r .branch)
   pub ended : r .settled ≡ false → (forms : List ℕ) → Outcome bs tab budget b (state c forms trace) (state (r .counts) forms after)
 

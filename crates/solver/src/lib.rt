@@ -1,4 +1,5 @@
 // The run: a branch is worked until it splits, and each child is worked as a branch.
+use bits::lowest;
 use branch::Branch;
 use constraints::list_at;
 use output::Counts;
@@ -7,84 +8,103 @@ use output::note;
 use problem::Table;
 use problem::Totals;
 use search::Found;
-use search::listings;
+use search::Scope;
+use search::prepare;
 use search::search;
+use search::woken;
+use step::Act;
 use step::act_of;
 use step::child_at;
 use step::kept;
 use step::number;
 use step::perform;
 use step::slots;
+ghost use mathlib.Core.Path.{_≡_};
 ghost use Prim.Native.Nat.{_*_, _≤_};
 ghost use lib.ListN.{length};
 ghost use Rattle.problem.specs.Table.{Opened, tableBy};
-ghost use Rattle.branch.specs.Held.{Sound};
 ghost use Rattle.search.specs.First.{Prepared};
 ghost use Rattle.output.specs.State.{state};
-ghost use Rattle.solver.specs.Outcomes.{constants, Outcome, SplitOutcome, Going, Begun, Settles, Splits, Runs};
+ghost use Rattle.solver.specs.Outcomes.{Wakes, Outcome, SplitOutcome, Going, Begun, Ready, Settles, Splits, Runs};
 
-// What bounds a run: the problem's totals, and how many steps it may take.
-pub struct Limits {
+// What a run has besides its lists: the problem's totals, how many steps it may take, what it has counted, and the constraints, as bits, of which a propagation rule may apply, and those of which a split may.
+pub struct Run {
     pub totals: Totals,
     pub budget: usize,
-}
-
-// A branch to be worked, and what was counted before it.
-pub struct Task {
-    pub branch: Branch,
     pub counts: Counts,
+    pub wake: u64,
+    pub ripe: u64,
 }
 
-// A branch after propagation, with the counts. It is settled if no propagation rule applies; otherwise it is closed, or the budget is spent.
+// A branch after propagation. It is settled if no propagation rule applies; otherwise it is closed, or the budget is spent.
 pub struct Inferred {
     pub branch: Branch,
     pub counts: Counts,
+    pub ripe: u64,
     pub settled: bool,
 }
 
-// A branch that splits where a search found it, the children that are left, as bits, and what was counted before them.
+// A split that a search found, with the children that are left, as bits, and the run as it is before them.
 pub struct Split {
-    pub branch: Branch,
     pub found: Found,
     pub left: u64,
-    pub counts: Counts,
+    pub run: Run,
+}
+
+// The constraints, as bits, that an act wakes.
+fn wakes(words: &[u64], a: Act) -> u64
+    requires { ⌜ length (now words) ≡ 65 ⌝ }
+    ensures { λ r. ⌜ Wakes (now (words .entry)) a r ⌝ }
+{
+    match a {
+        Act::Note(_, x, y) => woken(words, x, y),
+        Act::Merge(_, _) => words[64],
+        Act::Close => 0,
+    }
 }
 
 // Takes propagation steps until none applies, or the branch is closed, or the budget spent.
 fn settle<'a>(
     problem: &'a [u8],
     numbers: &'a [u8],
-    limits: Limits,
     offsets: &'a [u16],
     witnesses: &'a [u8],
-    listed: &'a [u64],
-    task: Task,
+    words: &'a [u64],
+    b: Branch,
+    run: Run,
     trace: &mut [u8],
 ) -> Inferred
-    requires { ⌜ Prepared (now problem) (now numbers) (limits .totals) (now offsets) (now witnesses) (now listed) × Sound (constants (now problem) (tableBy (limits .totals) (now offsets) (now witnesses))) (task .branch) × Going (limits .budget) (task .counts) (now trace) ⌝ }
-    ensures { λ r. ⌜ Settles (now (problem .entry)) (tableBy (limits .totals) (now (offsets .entry)) (now (witnesses .entry))) (limits .budget) (task .branch) (task .counts) (now (trace .entry)) r (now (trace .exit)) ⌝ }
+    requires { ⌜ Prepared (now problem) (now numbers) (run .totals) (now offsets) (now witnesses) (now words) × Ready (now problem) (tableBy (run .totals) (now offsets) (now witnesses)) b (run .wake) (run .ripe) × Going (run .budget) (run .counts) (now trace) ⌝ }
+    ensures { λ r. ⌜ Settles (now (problem .entry)) (tableBy (run .totals) (now (offsets .entry)) (now (witnesses .entry))) (run .budget) b (run .counts) (now (trace .entry)) r (now (trace .exit)) ⌝ }
 {
-    let totals = limits.totals;
-    let budget = limits.budget;
-    let mut at = task.branch;
-    let mut counts = task.counts;
+    let totals = run.totals;
+    let budget = run.budget;
+    let mut at = b;
+    let mut counts = run.counts;
+    let mut wake = run.wake;
+    let mut ripe = run.ripe;
     loop {
+        let scope = Scope {
+            split: false,
+            among: wake,
+        };
         let found = search(
             problem,
             numbers,
             totals,
             offsets,
             witnesses,
-            listed,
+            words,
             &at.parents,
             &at.rows,
-            false,
+            scope,
         );
         let rule = found.rule;
         if rule == 0 {
             return Inferred {
                 branch: at,
                 counts: counts,
+                ripe: ripe,
                 settled: true,
             };
         }
@@ -98,6 +118,7 @@ fn settle<'a>(
                     forms: forms,
                     stop: 1,
                 },
+                ripe: ripe,
                 settled: false,
             };
         }
@@ -116,10 +137,14 @@ fn settle<'a>(
             return Inferred {
                 branch: at,
                 counts: counts,
+                ripe: ripe,
                 settled: false,
             };
         }
         note(trace, steps, rule, found.number, root.0, 1);
+        let more = wakes(words, act);
+        wake = found.left | more;
+        ripe = ripe | more;
     }
 }
 
@@ -127,50 +152,45 @@ fn settle<'a>(
 fn work<'a>(
     problem: &'a [u8],
     numbers: &'a [u8],
-    limits: Limits,
     offsets: &'a [u16],
     witnesses: &'a [u8],
-    listed: &'a [u64],
-    task: Task,
+    words: &'a [u64],
+    b: Branch,
+    run: Run,
     forms: &mut [u8],
     trace: &mut [u8],
 ) -> Counts
-    requires { ⌜ Prepared (now problem) (now numbers) (limits .totals) (now offsets) (now witnesses) (now listed) × Sound (constants (now problem) (tableBy (limits .totals) (now offsets) (now witnesses))) (task .branch) × Begun (limits .totals .terms) (limits .budget) (state (task .counts) (now forms) (now trace)) ⌝ }
-    ensures { λ r. ⌜ Outcome (now (problem .entry)) (tableBy (limits .totals) (now (offsets .entry)) (now (witnesses .entry))) (limits .budget) (task .branch) (state (task .counts) (now (forms .entry)) (now (trace .entry))) (state r (now (forms .exit)) (now (trace .exit))) ⌝ }
+    requires { ⌜ Prepared (now problem) (now numbers) (run .totals) (now offsets) (now witnesses) (now words) × Ready (now problem) (tableBy (run .totals) (now offsets) (now witnesses)) b (run .wake) (run .ripe) × Begun (run .totals .terms) (run .budget) (state (run .counts) (now forms) (now trace)) ⌝ }
+    ensures { λ r. ⌜ Outcome (now (problem .entry)) (tableBy (run .totals) (now (offsets .entry)) (now (witnesses .entry))) (run .budget) b (state (run .counts) (now (forms .entry)) (now (trace .entry))) (state r (now (forms .exit)) (now (trace .exit))) ⌝ }
 {
-    let inferred = settle(
-        problem,
-        numbers,
-        limits,
-        offsets,
-        witnesses,
-        listed,
-        task,
-        trace,
-    );
+    let inferred = settle(problem, numbers, offsets, witnesses, words, b, run, trace);
     let counts = inferred.counts;
     if !inferred.settled {
         return counts;
     }
     let at = inferred.branch;
-    let totals = limits.totals;
+    let totals = run.totals;
+    let scope = Scope {
+        split: true,
+        among: inferred.ripe,
+    };
     let found = search(
         problem,
         numbers,
         totals,
         offsets,
         witnesses,
-        listed,
+        words,
         &at.parents,
         &at.rows,
-        true,
+        scope,
     );
     let rule = found.rule;
     if rule == 0 {
         return list_form(at, totals.terms, counts, forms);
     }
     let taken = counts.steps;
-    if taken == limits.budget {
+    if taken == run.budget {
         return Counts {
             steps: taken,
             forms: counts.forms,
@@ -193,45 +213,42 @@ fn work<'a>(
         root,
     );
     note(trace, taken, rule, found.number, root, number(left));
-    children(
-        problem,
-        numbers,
-        limits,
-        offsets,
-        witnesses,
-        listed,
-        Split {
-            branch: at,
-            found: found,
-            left: left,
-            counts: Counts {
-                steps: taken + 1,
-                forms: counts.forms,
-                stop: 0,
-            },
+    let next = Run {
+        totals: totals,
+        budget: run.budget,
+        counts: Counts {
+            steps: taken + 1,
+            forms: counts.forms,
+            stop: 0,
         },
-        forms,
-        trace,
-    )
+        wake: 0,
+        ripe: found.left,
+    };
+    let split = Split {
+        found: found,
+        left: left,
+        run: next,
+    };
+    children(problem, numbers, offsets, witnesses, words, at, split, forms, trace)
 }
 
 // Works the children of a split in order, until one stops the run.
 fn children<'a>(
     problem: &'a [u8],
     numbers: &'a [u8],
-    limits: Limits,
     offsets: &'a [u16],
     witnesses: &'a [u8],
-    listed: &'a [u64],
+    words: &'a [u64],
+    b: Branch,
     split: Split,
     forms: &mut [u8],
     trace: &mut [u8],
 ) -> Counts
-    requires { ⌜ Prepared (now problem) (now numbers) (limits .totals) (now offsets) (now witnesses) (now listed) × Splits (now problem) (tableBy (limits .totals) (now offsets) (now witnesses)) split × Begun (limits .totals .terms) (limits .budget) (state (split .counts) (now forms) (now trace)) ⌝ }
-    ensures { λ r. ⌜ SplitOutcome (now (problem .entry)) (tableBy (limits .totals) (now (offsets .entry)) (now (witnesses .entry))) (limits .budget) (split .branch) (split .found) (state (split .counts) (now (forms .entry)) (now (trace .entry))) (state r (now (forms .exit)) (now (trace .exit))) ⌝ }
+    requires { ⌜ Prepared (now problem) (now numbers) (split .run .totals) (now offsets) (now witnesses) (now words) × Splits (now problem) (tableBy (split .run .totals) (now offsets) (now witnesses)) b split × Begun (split .run .totals .terms) (split .run .budget) (state (split .run .counts) (now forms) (now trace)) ⌝ }
+    ensures { λ r. ⌜ SplitOutcome (now (problem .entry)) (tableBy (split .run .totals) (now (offsets .entry)) (now (witnesses .entry))) (split .run .budget) b (split .found) (state (split .run .counts) (now (forms .entry)) (now (trace .entry))) (state r (now (forms .exit)) (now (trace .exit))) ⌝ }
 {
-    let b = split.branch;
     let found = split.found;
+    let run = split.run;
     let rule = found.rule;
     let l = found.constraint;
     let h = found.root;
@@ -239,7 +256,7 @@ fn children<'a>(
     let entries = list_at(problem, numbers, n, offsets[n] as usize, l);
     let count = slots(entries, l, rule);
     let mut left = split.left;
-    let mut counts = split.counts;
+    let mut counts = run.counts;
     for k in 0..count {
         let turn = child_at(&b.parents, entries, l, rule, h.0, k, left);
         left = turn.left;
@@ -247,20 +264,15 @@ fn children<'a>(
             let act = turn.act;
             let next = perform(b, act);
             let then = next.branch;
-            counts = work(
-                problem,
-                numbers,
-                limits,
-                offsets,
-                witnesses,
-                listed,
-                Task {
-                    branch: then,
-                    counts: counts,
-                },
-                forms,
-                trace,
-            );
+            let more = wakes(words, act);
+            let after = Run {
+                totals: run.totals,
+                budget: run.budget,
+                counts: counts,
+                wake: run.wake | more,
+                ripe: run.ripe | more,
+            };
+            counts = work(problem, numbers, offsets, witnesses, words, then, after, forms, trace);
             if counts.stop != 0 {
                 return counts;
             }
@@ -292,26 +304,18 @@ pub fn solve(
         constraints: tab.constraints,
         terms: tab.terms,
     };
-    let listed = listings(problem, &numbers, totals, &offsets, &witnesses);
-    work(
-        problem,
-        &numbers,
-        Limits {
-            totals: totals,
-            budget: budget,
+    let words = prepare(problem, &numbers, totals, &offsets, &witnesses);
+    let all = lowest(tab.constraints);
+    let run = Run {
+        totals: totals,
+        budget: budget,
+        counts: Counts {
+            steps: 0,
+            forms: 0,
+            stop: 0,
         },
-        &offsets,
-        &witnesses,
-        &listed,
-        Task {
-            branch: b,
-            counts: Counts {
-                steps: 0,
-                forms: 0,
-                stop: 0,
-            },
-        },
-        forms,
-        trace,
-    )
+        wake: all,
+        ripe: all,
+    };
+    work(problem, &numbers, &offsets, &witnesses, &words, b, run, forms, trace)
 }
