@@ -66,6 +66,17 @@ module _ (ps rows es : List ℕ) (j : ℕ) where
 once : (a : Bool) → not ((a && true) || false) ≡ not a
 once a = ap not (or-false (a && true) ∙ and-true a)
 
+-- a root is its own root
+pub root-own : (ps : List ℕ) → Falls ps → (t : ℕ) → rootOf ps (rootOf ps t) ≡ rootOf ps t
+unfolding rootOf
+root-own ps fall t = walk-root ps fall (rootOf ps t) (root-walk ps fall t)
+
+-- root h is known to be the same as some entry where an entry is of its class
+pub class-known : (b : Branch) (h : ℕ) → rootAt b h ≡ h → (es : List ℕ) → any (all (calculus.known b)) (map (λ (x : Term). Same (term h) x ∷ []) (map term es)) ≡ any (λ (e : ℕ). eqb (rootOf (b .parents) e) h) es
+class-known b h e es =
+    any-map (all (calculus.known b)) (λ (x : Term). Same (term h) x ∷ []) (map term es) ∙ any-map (λ (x : Term). all (calculus.known b) (Same (term h) x ∷ [])) term es
+    ∙ ap (λ (f : ℕ → Bool). any f es) (fun-ext (λ x. and-true (eqb (rootAt b h) (rootAt b x)) ∙ ap₂ eqb e (root-is b x) ∙ turned h (rootOf (b .parents) x)))
+
 module _ (n : ℕ) (b : Branch) (rows : List ℕ) (of : RowsOf b rows) (fall : Falls (b .parents)) (few : n ≤ 64) where
   abbrev rt : ℕ → ℕ
   rt t = rootOf (b .parents) t
@@ -79,13 +90,8 @@ module _ (n : ℕ) (b : Branch) (rows : List ℕ) (of : RowsOf b rows) (fall : F
   low64 : (t : ℕ) → t < n → rt t < 64
   low64 t l = let k = low t l in omega arith
 
-  -- a root is its own root
-  twice : (t : ℕ) → rootAt b (rootAt b t) ≡ rootAt b t
-  unfolding rootAt
-  twice t = walk-root (b .parents) fall (calculus.walk t (b .parents) t) (root-walk (b .parents) fall t)
-
   own : (t : ℕ) → rootAt b (rt t) ≡ rt t
-  own t = ap (rootAt b) (sym (is t)) ∙ twice t ∙ is t
+  own t = is (rt t) ∙ root-own (b .parents) fall t
 
   -- what a row says of a root
   row-at : (k t : ℕ) → k < 16 → t < n → bit (getD rows k 0) (rt t) ≡ known b k (rt t)
@@ -187,8 +193,7 @@ module _ (n : ℕ) (b : Branch) (rows : List ℕ) (of : RowsOf b rows) (fall : F
     -- rule 20 at root h
     chosen : (h : ℕ) → rootAt b h ≡ h → (es : List ℕ) → applies (calculus.known b) (choose [] b A (map term es) (term h)) ≡ (known b (A .index) h && not (any (λ (e : ℕ). eqb (rt e) h) es))
     chosen h e es = ap₂ (λ (x y : Bool). x && not y) (and-true (calculus.known b (In (term h) A)) ∙ known-in b h h e A lowA)
-        (any-map (all (calculus.known b)) (λ (x : Term). Same (term h) x ∷ []) (map term es) ∙ any-map (λ (x : Term). all (calculus.known b) (Same (term h) x ∷ [])) term es
-        ∙ ap (λ (f : ℕ → Bool). any f es) (fun-ext (λ x. and-true (eqb (rootAt b h) (rootAt b x)) ∙ ap₂ eqb e (is x) ∙ turned h (rt x))))
+        (class-known b h e es)
 
     module _ (l : Constraint) (j : ℕ) (es : List ℕ) (each : Each (λ e. e < n) es) (w : ℕ) (f : Listing (b .parents) row es j w)
         (move : (p : ℕ) → moveAt b l j p ≡ listMove b A (map term es) j p) (at : positions n b l j ≡ cond (eqb j 19) (upFrom 0 (length (map term es))) (roots n b)) where

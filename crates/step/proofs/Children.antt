@@ -38,12 +38,12 @@ use Rattle.rules.specs.Rows.{numbered, literalsOf, countOf, sets, child, only, 
 use Rattle.rules.specs.Words.{LowChild}
 use Rattle.rules.proofs.Laying.{few, row-counts}
 use Rattle.rules.proofs.TableTests.{row-of}
-use Rattle.rules.proofs.FitLaws.{entries-below}
+use Rattle.rules.proofs.FitLaws.{entries-below, root-own}
 use Rattle.step.specs.declared.Act.{Act}
 use Rattle.step.specs.declared.Act.the-variants.{Close}
 use Rattle.step.specs.Acts.{listsOf, noteOf, joinOf, Placed, Somewhere, Acts, ActsFor}
 use Rattle.step.proofs.Asserting.{literals-any}
-use Rattle.step.proofs.Acting.{root-own, does-by, close-does, note-does, join-does}
+use Rattle.step.proofs.Acting.{does-by, close-does, note-does, join-does}
 
 -- ---- how many children a rule can have
 
