@@ -1,42 +1,45 @@
--- What the loops of `search` keep, and how each goes on: for every branch that the parents and rows show, the first place is the first of what is left. At the end, the same for the loop of `listings`: of each constraint before the present one the entries are listed.
+-- What the loops of `search` keep, and how each goes on. Of the branches that the parents and rows show and whose constraints outside the mask are idle: those that are not left are idle, and so are the rules that were passed.
 use mathlib.Core.Path.{_≡_, refl, sym, ap, _∙_, subst}
 use mathlib.Core.Logic.{inl, inr}
-use mathlib.Core.Bool.{Bool, true, false}
+use mathlib.Core.Bool.{Bool, true, false, _&&_, not, and-true}
 use mathlib.Core.Option.{Option·map, some, map-eq-none-iff, map-eq-some-iff, none}
 use mathlib.Core.List.{List, map}
 use Prim.Native.Nat.{ℕ, _+_, _-_, _*_, _^_, _/_, _%_, _<_, _≤_}
 use native.Mathlib.Omega.{arith}
 use native.Mathlib.Decide.{ℕ-discrete}
-use lib.ListN.{length, getD, set, length-set}
-use lib.Seq.{getD-set-same, getD-set-other}
+use lib.ListN.{length, getD}
 use lib.Dec.{eqb}
+use lib.Bits.{bitAnd}
+use lib.Count.{trailingZeros}
 use borrow.Author.Tests.{eq-eqb, ne-eqb}
-use Rattle.calculus.specs.Lists.{upFrom, any, first, bit}
+use Rattle.calculus.specs.Lists.{upFrom, first, bit}
 use Rattle.calculus.specs.Terms.{Term, term}
 use Rattle.calculus.specs.Relations.{equal, union, disjoint, subset, intersection}
 use Rattle.calculus.specs.Meaning as calculus
 use Rattle.calculus.specs.Branch.{Branch, walk, rootAt}
 use Rattle.calculus.specs.Invariants.{Falls, ConstraintIn}
 use Rattle.calculus.specs.Reading.{read}
-use Rattle.calculus.proofs.Bools.{any-map}
-use Rattle.calculus.proofs.Masks.{bit-zero}
+use Rattle.calculus.proofs.Bools.{clash, and-l}
 use Rattle.calculus.proofs.Walk.{walk-root, root-walk}
-use Rattle.bits.proofs.Bits.{bit-shr}
+use Rattle.bits.proofs.Bits.{bit-shr, bit-zero, no-bit}
+use Rattle.bits.proofs.Count.{lowest-set, below-lowest, bit-less, less-lt}
 use Rattle.problem.specs.declared.Totals.{Totals}
-use Rattle.problem.specs.Table.{Tabled, Stands, constraintsOf, constraintOf, tableBy, witnessOf}
+use Rattle.problem.specs.Table.{Tabled, constraintsOf, constraintOf, noConstraint, tableBy}
 use Rattle.problem.proofs.Access.{opened-sizes, constraint-count}
-use Rattle.places.specs.Places.{propagationSpan, splitSpan, spanOf, InSpan, RuleOf, entriesOf, moveAt, firstAt}
+use Rattle.places.specs.Places.{propagationSpan, splitSpan, spanOf, InSpan, RuleOf, moveAt, firstAt}
 use Rattle.places.proofs.Offered.{relation-19, position-root, position-of}
 use Rattle.constraints.specs.declared.Constraint.{Constraint}
 use Rattle.constraints.specs.Decoded.{decoded, Unpacked}
-use Rattle.constraints.proofs.Decoding.{stands-there, two-operands, kind-here, constraint-in}
+use Rattle.constraints.proofs.Decoding.{kind-here, constraint-in}
 use Rattle.rules.specs.Spans.{Spanned}
 use Rattle.rules.specs.Words.{Lent, EntryBits, Asked, Shown, Fits}
 use Rattle.rules.proofs.Lowest.{first-fails}
 use Rattle.rules.proofs.FitLaws.{entries-below}
+use Rattle.quiet.specs.Quiet.{Idle, Quiet}
 use Rattle.search.specs.declared.Found.{Found}
-use Rattle.search.specs.First.{ListedOf, Prepared, firstPlace, nowhere, Finds}
-use Rattle.search.proofs.Order.{position-hit, position-miss, positions-done, rulesFrom, rule-hit, rule-miss, rules-done, constraintsFrom, constraints-begin, constraint-hit, constraint-miss, constraints-done}
+use Rattle.search.specs.First.{Prepared, nowhere, Finds}
+use Rattle.search.proofs.Order.{position-hit, position-miss, positions-done, first-offer, no-place, place-at}
+use Rattle.search.proofs.Turns.{Turn, turn-of, entries-by}
 
 -- ---- rules of a constraint
 
@@ -91,63 +94,32 @@ module _ (n : ℕ) (b : Branch) (fall : Falls (b .parents)) where
           let w = position-root n b l j p fall few c e f in
           subst (λ (k : ℕ). rootAt b k ≡ k) (sym (ap (λ (x : Term). x .index) (w .2))) (w .1)
 
--- ---- the turn of constraint i
-
--- it stands at its offset, and what is read of it is there
-pub record Turn (bs offsets witnesses : List ℕ) (i : ℕ) : Type 0 where
-  pub small : i < 48
-  pub stands : Stands bs i (getD offsets i 0)
-  pub witness : term (getD witnesses i 0) ≡ witnessOf bs i
-  pub in-problem : i < length (constraintsOf (read bs))
-  pub in-bytes : getD offsets i 0 + 2 < length bs
-  pub short : length bs ≤ 4096
-  pub offsets-long : length offsets ≡ 48
-  pub witnesses-long : length witnesses ≡ 48
-
-pub turn-of : {bs : List ℕ} {t : Totals} {offsets witnesses : List ℕ} {i : ℕ} → Tabled bs t offsets witnesses → i < t .constraints → Turn bs offsets witnesses i
-turn-of {bs} {t} {offsets} {witnesses} {i} d l =
-    let s = stands-there bs (tableBy t offsets witnesses) i (d .opened) l in
-    let w = two-operands bs i (getD offsets i 0) (s .1) in
-    record {
-      small = s .0;
-      stands = s .1;
-      witness = s .2;
-      in-problem = omega (arith, constraint-count bs (tableBy t offsets witnesses) (d .opened));
-      in-bytes = w .1;
-      short = w .2;
-      offsets-long = d .sized;
-      witnesses-long = d .sized-witnesses;
-    }
-
--- its entries are those of the list that it is unpacked with
-entries-by : {bs : List ℕ} {i : ℕ} {es : List ℕ} {l : Constraint} → Unpacked bs i es l → (h : ℕ) → any (λ (e : Term). eqb (e .index) h) (entriesOf (constraintOf bs i)) ≡ any (λ (e : ℕ). eqb e h) es
-entries-by {es = es} u h = ap (λ (x : calculus.Constraint). any (λ (e : Term). eqb (e .index) h) (entriesOf x)) (u .is) ∙ ap (any (λ (e : Term). eqb (e .index) h)) (u .handled .entries-are) ∙ any-map (λ (e : Term). eqb (e .index) h) term es
-
--- ---- what the loops of the search keep
+-- ---- what the loops keep
 
 -- constraint i is decoded as l with its entries, which are also bits of a word, and its rules end at end
-pub record Here (split : Bool) (n : ℕ) (bs : List ℕ) (i end : ℕ) (es : List ℕ) (bits : ℕ) (l : Constraint) : Type 0 where
+pub record Here (split : Bool) (n : ℕ) (bs ps : List ℕ) (i end : ℕ) (es : List ℕ) (bits : ℕ) (l : Constraint) : Type 0 where
+  pub few : n ≤ 64
+  pub falls : Falls ps
   pub in-problem : i < length (constraintsOf (read bs))
   pub ends : end ≡ spanOf split (constraintOf bs i) .1
   pub in-terms : ConstraintIn n 8 (constraintOf bs i)
   pub unpacked : Unpacked bs i es l
   pub entries : EntryBits es bits
 
-module _ (split : Bool) (n count : ℕ) (bs ps rows : List ℕ) where
-  -- before constraint i
-  pub record AtConstraint (i : ℕ) (r : Found) : Type 0 where
-    pub counted : count ≡ length (constraintsOf (read bs))
-    pub few : n ≤ 64
-    pub falls : Falls ps
+module _ (split : Bool) (n : ℕ) (bs ps rows : List ℕ) where
+  -- the constraints that are left to look at, of those in among
+  pub record AtMask (among left : ℕ) (r : Found) : Type 0 where
+    pub small : left < 2 ^ 64
+    pub low : (i : ℕ) → bit left i ≡ true → i < length (constraintsOf (read bs))
     pub nothing : r ≡ nowhere
-    pub left : (b : Branch) → Shown b ps rows → firstPlace split n (constraintsOf (read bs)) b ≡ constraintsFrom split n (constraintsOf (read bs)) b i
+    pub quiet : (b : Branch) → Shown b ps rows → Quiet split n (constraintsOf (read bs)) b among → Quiet split n (constraintsOf (read bs)) b left
 
   -- before rule j of constraint i
   pub record AtRule (i j end : ℕ) (es : List ℕ) (bits : ℕ) (l : Constraint) (r : Found) : Type 0 where
-    pub turn : AtConstraint i r
-    pub here : Here split n bs i end es bits l
+    pub nothing : r ≡ nowhere
+    pub here : Here split n bs ps i end es bits l
     pub begun : spanOf split (constraintOf bs i) .0 ≤ j
-    pub left : (b : Branch) → Shown b ps rows → rulesFrom split n b (constraintOf bs i) (spanOf split (constraintOf bs i) .0) ≡ rulesFrom split n b (constraintOf bs i) j
+    pub passed : (b : Branch) → Shown b ps rows → (k : ℕ) → InSpan (spanOf split (constraintOf bs i)) k → k < j → firstAt n b (constraintOf bs i) k ≡ none
 
   -- before root h of rule j, which applies first at the lowest bit of its word
   pub record AtRoot (i j end : ℕ) (es : List ℕ) (bits : ℕ) (l : Constraint) (fit h : ℕ) (r : Found) : Type 0 where
@@ -162,83 +134,86 @@ Fitting ps rows es l j fit = (n : ℕ) (b : Branch) → n ≤ 64 → ConstraintI
 -- ---- how the search goes
 
 -- at the first constraint
-pub search-start : {bs : List ℕ} {t : Totals} {offsets witnesses ps rows : List ℕ} → Tabled bs t offsets witnesses → Lent ps rows → (split : Bool) → AtConstraint split (t .terms) (t .constraints) bs ps rows 0 nowhere
-search-start {bs} {t} {offsets} {witnesses} d e split = record {
-  counted = constraint-count bs (tableBy t offsets witnesses) (d .opened);
-  few = opened-sizes bs (tableBy t offsets witnesses) (d .opened) .2;
-  falls = e .rooted .falls;
-  nothing = refl;
-  left = λ b _. constraints-begin split (t .terms) (constraintsOf (read bs)) b;
-}
+pub search-start : {bs : List ℕ} {t : Totals} {offsets witnesses : List ℕ} (ps rows : List ℕ) (split : Bool) {among : ℕ} → Tabled bs t offsets witnesses → among < 2 ^ 64 → ((i : ℕ) → bit among i ≡ true → i < t .constraints) → AtMask split (t .terms) bs ps rows among among nowhere
+search-start {bs} {t} {offsets} {witnesses} ps rows split d s f = record { small = s; low = λ i e. omega (arith, constraint-count bs (tableBy t offsets witnesses) (d .opened), f i e); nothing = refl; quiet = λ b z q. q }
+
+-- the lowest constraint that is left is one of the table's
+pub in-table : {split : Bool} {n among left : ℕ} {bs ps rows offsets witnesses : List ℕ} {t : Totals} {r : Found} → Tabled bs t offsets witnesses → AtMask split n bs ps rows among left r → ¬ (left ≡ 0) → trailingZeros 64 left < t .constraints
+in-table {left = left} {bs} {offsets = offsets} {witnesses} {t} d a h = omega (arith, constraint-count bs (tableBy t offsets witnesses) (d .opened), a .low (trailingZeros 64 left) (lowest-set 64 left (a .small) h))
 
 -- `span_of` is asked for the rules of the constraint whose turn it is
 span-here : {bs offsets witnesses : List ℕ} {i : ℕ} → Turn bs offsets witnesses i → (split : Bool) (first end : ℕ) → Spanned split (getD bs (getD offsets i 0) 0) first end → (first ≡ spanOf split (constraintOf bs i) .0) × (end ≡ spanOf split (constraintOf bs i) .1)
 span-here {bs} {offsets} {i = i} t split first end s = s (constraintOf bs i) (sym (kind-here bs i (getD offsets i 0) (t .stands)))
 
 -- at the first rule of the constraint whose turn it is
-pub rules-start : {split : Bool} {i first end : ℕ} {bs ps rows numbers offsets witnesses listed es : List ℕ} {t : Totals} {l : Constraint} {r : Found} → AtConstraint split (t .terms) (t .constraints) bs ps rows i r → Prepared bs numbers t offsets witnesses listed → i < t .constraints
-    → Spanned split (getD bs (getD offsets i 0) 0) first end → Unpacked bs i es l → AtRule split (t .terms) (t .constraints) bs ps rows i first end es (getD listed i 0) l r
+pub rules-start : {split : Bool} {i first end : ℕ} {bs ps rows numbers offsets witnesses words es : List ℕ} {t : Totals} {l : Constraint} {r : Found} → r ≡ nowhere → Prepared bs numbers t offsets witnesses words → Lent ps rows → i < t .constraints
+    → Spanned split (getD bs (getD offsets i 0) 0) first end → Unpacked bs i es l → AtRule split (t .terms) bs ps rows i first end es (getD words i 0) l r
 unfolding constraintOf
-rules-start {split} {i} {first} {end} {bs} {offsets = offsets} {witnesses} {es = es} {t} {l} a w k p u =
+rules-start {split} {i} {first} {end} {bs} {offsets = offsets} {witnesses} {es = es} {t} {l} e w v k p u =
     let y = turn-of (w .tabled) k in
     let q = span-here y split first end p in
     let o = w .tabled .opened in
+    let s = opened-sizes bs (tableBy t offsets witnesses) o in
     record {
-      turn = a;
+      nothing = e;
       here = record {
+        few = s .2;
+        falls = v .rooted .falls;
         in-problem = y .in-problem;
         ends = q .1;
-        in-terms = constraint-in bs (tableBy t offsets witnesses) i o k (t .terms) 8 (omega arith) (opened-sizes bs (tableBy t offsets witnesses) o .1);
+        in-terms = constraint-in bs (tableBy t offsets witnesses) i o k (t .terms) 8 (omega arith) (s .1);
         unpacked = u;
-        entries = record { below = entries-below es l (u .handled); bits = λ h. w .listed-are .bits i (y .in-problem) h ∙ entries-by u h; small = w .listed-are .small i (y .in-problem) };
+        entries = record { below = entries-below es l (u .handled); bits = λ h. w .words-are .entries i (y .in-problem) h ∙ entries-by u h; small = w .words-are .small i (y .in-problem) };
       };
       begun = omega (arith, q .0);
-      left = λ b _. ap (rulesFrom split (t .terms) b (constraintOf bs i)) (sym (q .0));
+      passed = λ b z k s h. absurd (omega (arith, q .0, s .0));
     }
 
-module _ {split : Bool} {n count : ℕ} {bs ps rows : List ℕ} where
-  -- past the last constraint no rule applies
-  pub search-over : {i : ℕ} {r : Found} → AtConstraint split n count bs ps rows i r → count ≤ i → (b : Branch) → Shown b ps rows → Finds split n (constraintsOf (read bs)) b r
-  search-over {i} a h b s =
-      subst (Finds split n (constraintsOf (read bs)) b) (sym (a .nothing))
-      (record { position = 0; first-is = a .left b s ∙ constraints-done split n (constraintsOf (read bs)) b i (omega (arith, a .counted)); there = λ z. absurd (z refl); none = λ _. refl })
+module _ {split : Bool} {n : ℕ} {bs ps rows : List ℕ} where
+  module _ {among left : ℕ} {r : Found} (a : AtMask split n bs ps rows among left r) where
+    -- none is left
+    pub search-over : left ≡ 0 → (b : Branch) → Shown b ps rows → Quiet split n (constraintsOf (read bs)) b among → Finds split n (constraintsOf (read bs)) b r
+    search-over e b z q =
+        let idle : (i : ℕ) → i < length (constraintsOf (read bs)) → Idle split n b (getD (constraintsOf (read bs)) i noConstraint) = λ i l. a .quiet b z q i l (no-bit left i e) in
+        subst (Finds split n (constraintsOf (read bs)) b) (sym (a .nothing))
+        (record { position = 0; first-is = no-place split n b (constraintsOf (read bs)) idle; there = λ y. absurd (y refl); none = λ _. refl; quiet = λ i l _. idle i l; low = λ i y. clash y (bit-zero i) })
 
-  -- none of the rules of constraint i applies
-  constraint-over : {i : ℕ} {r s : Found} → AtConstraint split n count bs ps rows i r → i < length (constraintsOf (read bs)) → s ≡ r
-      → ((b : Branch) → Shown b ps rows → rulesFrom split n b (constraintOf bs i) (spanOf split (constraintOf bs i) .0) ≡ none) → AtConstraint split n count bs ps rows (i + 1) s
-  unfolding constraintOf
-  constraint-over {i} a h e f = record {
-    counted = a .counted;
-    few = a .few;
-    falls = a .falls;
-    nothing = e ∙ a .nothing;
-    left = λ b z. a .left b z ∙ constraint-miss split n (constraintsOf (read bs)) b i h (f b z);
-  }
+    module _ (more : ¬ (left ≡ 0)) where
+      abbrev lowest : ℕ
+      lowest = trailingZeros 64 left
 
-  -- constraint i has no rules
-  pub no-rules : {i first end : ℕ} {offsets witnesses : List ℕ} {r s : Found} → AtConstraint split n count bs ps rows i r → Turn bs offsets witnesses i → Spanned split (getD bs (getD offsets i 0) 0) first end → end ≤ first → s ≡ r → AtConstraint split n count bs ps rows (i + 1) s
-  no-rules {i} {first} {end} a t p k e =
-      let q = span-here t split first end p in
-      constraint-over a (t .in-problem) e (λ b _. rules-done split n b (constraintOf bs i) (spanOf split (constraintOf bs i) .0) (omega (arith, q .0, q .1)))
+      -- the lowest is idle, and is left no more
+      constraint-over : {s : Found} → s ≡ nowhere → ((b : Branch) → Shown b ps rows → Idle split n b (constraintOf bs lowest)) → AtMask split n bs ps rows among (bitAnd left (left - 1)) s
+      unfolding constraintOf
+      constraint-over e f = record { small = omega (arith, a .small, less-lt left more); low = λ i y. a .low i (and-l (bit left i) (not (eqb i lowest)) (sym (bit-less 64 left i (a .small) more) ∙ y)); nothing = e; quiet = λ b z q i l y. go b z q i l y (ℕ-discrete i lowest) }
+        where
+          go : (b : Branch) → Shown b ps rows → Quiet split n (constraintsOf (read bs)) b among → (i : ℕ) → i < length (constraintsOf (read bs)) → bit (bitAnd left (left - 1)) i ≡ false → Dec (i ≡ lowest) → Idle split n b (getD (constraintsOf (read bs)) i noConstraint)
+          go b z q i l y (yes h) = subst (λ (k : ℕ). Idle split n b (getD (constraintsOf (read bs)) k noConstraint)) (sym h) (f b z)
+          go b z q i l y (no h) = a .quiet b z q i l (rw (bit-less 64 left i (a .small) more, ne-eqb i lowest h, and-true (bit left i)) at y)
+
+      -- it has no rules
+      pub no-rules : {first end : ℕ} {offsets witnesses : List ℕ} {s : Found} → Turn bs offsets witnesses lowest → Spanned split (getD bs (getD offsets lowest 0) 0) first end → end ≤ first → s ≡ r → AtMask split n bs ps rows among (bitAnd left (left - 1)) s
+      no-rules {first} {end} t p k e =
+          let q = span-here t split first end p in
+          constraint-over (e ∙ a .nothing) (λ b z j v. absurd (omega (arith, q .0, q .1, v .0, v .1)))
+
+      -- it was looked through
+      pub next-constraint : {j end : ℕ} {es : List ℕ} {bits : ℕ} {l : Constraint} {s t : Found} → AtRule split n bs ps rows lowest j end es bits l s → end ≤ j → t ≡ s → AtMask split n bs ps rows among (bitAnd left (left - 1)) t
+      next-constraint {j} g k e = constraint-over (e ∙ g .nothing) (λ b z m v. g .passed b z m v (omega (arith, v .1, g .here .ends)))
 
   module _ {i j end : ℕ} {es : List ℕ} {bits : ℕ} {l : Constraint} {r : Found} where
-    module _ (a : AtRule split n count bs ps rows i j end es bits l r) where
-      -- past the last rule
-      pub next-constraint : end ≤ j → {s : Found} → s ≡ r → AtConstraint split n count bs ps rows (i + 1) s
-      next-constraint h e = constraint-over (a .turn) (a .here .in-problem) e (λ b z. a .left b z ∙ rules-done split n b (constraintOf bs i) j (omega (arith, a .here .ends)))
-
+    module _ (a : AtRule split n bs ps rows i j end es bits l r) where
       -- rule j is one of the constraint's
       in-span : j < end → InSpan (spanOf split (constraintOf bs i)) j
       in-span h = (a .begun, omega (arith, a .here .ends))
 
       -- rule j does not apply
-      rule-over : j < end → {s : Found} → s ≡ r → ((b : Branch) → Shown b ps rows → firstAt n b (constraintOf bs i) j ≡ none) → AtRule split n count bs ps rows i (j + 1) end es bits l s
-      rule-over h e f = record {
-        turn = subst (AtConstraint split n count bs ps rows i) (sym e) (a .turn);
-        here = a .here;
-        begun = omega (arith, a .begun);
-        left = λ b z. a .left b z ∙ rule-miss split n b (constraintOf bs i) j (in-span h .1) (f b z);
-      }
+      rule-over : {s : Found} → s ≡ r → ((b : Branch) → Shown b ps rows → firstAt n b (constraintOf bs i) j ≡ none) → AtRule split n bs ps rows i (j + 1) end es bits l s
+      rule-over e f = record { nothing = e ∙ a .nothing; here = a .here; begun = omega (arith, a .begun); passed = λ b z k v h. go b z k v h (ℕ-discrete k j) }
+        where
+          go : (b : Branch) → Shown b ps rows → (k : ℕ) → InSpan (spanOf split (constraintOf bs i)) k → k < j + 1 → Dec (k ≡ j) → firstAt n b (constraintOf bs i) k ≡ none
+          go b z k v h (yes q) = ap (firstAt n b (constraintOf bs i)) q ∙ f b z
+          go b z k v h (no q) = a .passed b z k v (omega arith)
 
       -- its word can be asked for
       pub asked : j < end → Asked es bits l j
@@ -246,75 +221,53 @@ module _ {split : Bool} {n count : ℕ} {bs ps rows : List ℕ} where
 
       module _ {fit : ℕ} (f : Fitting ps rows es l j fit) where
         fits : (b : Branch) → Shown b ps rows → Fits n b (constraintOf bs i) j fit
-        fits b z = subst (λ (x : calculus.Constraint). Fits n b x j fit) (sym (a .here .unpacked .is)) (f n b (a .turn .few) (subst (ConstraintIn n 8) (a .here .unpacked .is) (a .here .in-terms)) z)
+        fits b z = subst (λ (x : calculus.Constraint). Fits n b x j fit) (sym (a .here .unpacked .is)) (f n b (a .here .few) (subst (ConstraintIn n 8) (a .here .unpacked .is) (a .here .in-terms)) z)
 
         -- a rule whose word is empty does not apply
-        pub no-roots : j < end → fit ≡ 0 → {s : Found} → s ≡ r → AtRule split n count bs ps rows i (j + 1) end es bits l s
-        no-roots h z e = rule-over h e (λ b y. map-eq-none-iff _ _ .0 (fits b y ∙ first-fails (bit fit) (upFrom 0 n) (λ k. ap (λ (w : ℕ). bit w k) z ∙ bit-zero k)))
+        pub no-roots : fit ≡ 0 → {s : Found} → s ≡ r → AtRule split n bs ps rows i (j + 1) end es bits l s
+        no-roots z e = rule-over e (λ b y. map-eq-none-iff _ _ .0 (fits b y ∙ first-fails (bit fit) (upFrom 0 n) (λ k. no-bit fit k z)))
 
         -- any other is looked at from root 0 on
-        pub roots-start : j < end → AtRoot split n count bs ps rows i j end es bits l fit 0 r
+        pub roots-start : j < end → AtRoot split n bs ps rows i j end es bits l fit 0 r
         roots-start h = let z : n ≡ n - 0 = omega arith in record { rule = a; in-span = h; left = λ b y. fits b y ∙ ap (λ (k : ℕ). first (bit fit) (upFrom 0 k)) z }
 
-    module _ {fit h : ℕ} (a : AtRoot split n count bs ps rows i j end es bits l fit h r) where
+    module _ {fit h : ℕ} (a : AtRoot split n bs ps rows i j end es bits l fit h r) where
       -- past the last root
-      pub next-rule : n ≤ h → {s : Found} → s ≡ r → AtRule split n count bs ps rows i (j + 1) end es bits l s
-      next-rule k e = rule-over (a .rule) (a .in-span) e (λ b z. map-eq-none-iff _ _ .0 (a .left b z ∙ positions-done (bit fit) h n k))
+      pub next-rule : n ≤ h → {s : Found} → s ≡ r → AtRule split n bs ps rows i (j + 1) end es bits l s
+      next-rule k e = rule-over (a .rule) e (λ b z. map-eq-none-iff _ _ .0 (a .left b z ∙ positions-done (bit fit) h n k))
 
-      pub next-root : h < n → ¬ (fit / 2 ^ h % 2 ≡ 1) → AtRoot split n count bs ps rows i j end es bits l fit (h + 1) r
+      pub next-root : h < n → ¬ (fit / 2 ^ h % 2 ≡ 1) → AtRoot split n bs ps rows i j end es bits l fit (h + 1) r
       next-root k z = record { rule = a .rule; in-span = a .in-span; left = λ b y. a .left b y ∙ position-miss (bit fit) h n k (sym (bit-shr fit h) ∙ ne-eqb (fit / 2 ^ h % 2) 1 z) }
 
-      -- a root whose bit is set is that of the first place
-      pub search-hit : h < n → fit / 2 ^ h % 2 ≡ 1 → (b : Branch) → Shown b ps rows → Finds split n (constraintsOf (read bs)) b (record { number = i; rule = j; root = record { 0 = h }; constraint = l })
-      unfolding constraintOf
-      search-hit k z b y =
-          let c : calculus.Constraint = constraintOf bs i in
-          let t : bit fit h ≡ true = sym (bit-shr fit h) ∙ eq-eqb (fit / 2 ^ h % 2) 1 z in
-          let g = map-eq-some-iff (λ (p : ℕ). moveAt b c j p .0 .index) (firstAt n b c j) .0 (a .left b y ∙ position-hit (bit fit) h n k t) in
-          let p : ℕ = g .0 in
-          let f : firstAt n b c j ≡ some p = g .1 in
-          let v : InSpan (spanOf split c) j = in-span (a .rule) (a .in-span) in
-          let fall : Falls (b .parents) = subst Falls (sym (y .parents-are)) (a .rule .turn .falls) in
-          let few = a .rule .turn .few in
-          let m : ConstraintIn 64 8 c = subst (ConstraintIn 64 8) (sym (a .rule .here .unpacked .is)) (a .rule .here .unpacked .handled .in-range) in
-          let w = position-of n b c j p fall few m (rule-of split c j v) f in
-          record {
-            position = p;
-            first-is = rw (ne-eqb j 0 (not-0 split c j v)) (a .rule .turn .left b y ∙ constraint-hit split n (constraintsOf (read bs)) b i (a .rule .here .in-problem) (moveAt b c j p) (a .rule .left b y ∙ rule-hit split n b c j (v .1) p f));
-            there = λ _. record {
-              within = record { in-problem = a .rule .here .in-problem; of-rule = v; of-entry = w .0; of-root = λ o. w .1 o };
-              concerns = ap term (g .2);
-              low = k;
-              rooted = subst (λ (x : ℕ). rootAt b x ≡ x) (g .2) (concerned-root n b fall c j p few m (rule-of split c j v) f);
-              entries = es;
-              opened = a .rule .here .unpacked .is;
-              handled = a .rule .here .unpacked .handled;
-            };
-            none = λ e. absurd (not-0 split c j v e);
-          }
-
--- ---- what the loop of `listings` keeps, and how it goes
-
-abbrev FilledAt : List ℕ → ℕ → ℕ → Type 0
-FilledAt bs k w = ((h : ℕ) → bit w h ≡ any (λ (e : Term). eqb (e .index) h) (entriesOf (constraintOf bs k))) × (w < 2 ^ 64)
-
-pub record Filled (bs listed : List ℕ) (i : ℕ) : Type 0 where
-  pub long : length listed ≡ 48
-  pub filled : (k : ℕ) → k < i → FilledAt bs k (getD listed k 0)
-
-pub fill-start : (bs listed : List ℕ) → length listed ≡ 48 → Filled bs listed 0
-fill-start bs listed n = record { long = n; filled = λ k l. absurd (omega arith) }
-
-pub fill-next : {bs listed : List ℕ} {i : ℕ} {es : List ℕ} {l : Constraint} {w : ℕ} → Filled bs listed i → i < 48 → Unpacked bs i es l → EntryBits es w → Filled bs (set listed i w) (i + 1)
-fill-next {bs} {listed} {i} {w = w} f h u b = record { long = length-set listed i w ∙ f .long; filled = λ k m. go k m (ℕ-discrete k i) }
-  where
-    go : (k : ℕ) → k < i + 1 → Dec (k ≡ i) → FilledAt bs k (getD (set listed i w) k 0)
-    go k m (yes e) = subst (λ (x : ℕ). FilledAt bs x (getD (set listed i w) x 0)) (sym e)
-        (subst (FilledAt bs i) (sym (getD-set-same listed i w 0 (omega (arith, f .long)))) (λ q. b .bits q ∙ sym (entries-by u q), b .small))
-    go k m (no e) = subst (FilledAt bs k) (sym (getD-set-other listed i k w 0 e)) (f .filled k (omega arith))
-
-pub fill-end : {bs listed : List ℕ} {i : ℕ} {t : Totals} {offsets witnesses : List ℕ} → Filled bs listed i → Tabled bs t offsets witnesses → t .constraints ≤ i → ListedOf (constraintsOf (read bs)) listed
-unfolding constraintOf
-fill-end {bs} {t = t} {offsets} {witnesses} f d h =
-    let n = constraint-count bs (tableBy t offsets witnesses) (d .opened) in
-    record { long = f .long; bits = λ k l. f .filled k (omega arith) .0; small = λ k l. f .filled k (omega arith) .1 }
+  -- a root whose bit is set is that of the first place: the constraints below the lowest are idle
+  pub search-hit : {among left j end : ℕ} {es : List ℕ} {bits : ℕ} {l : Constraint} {fit h : ℕ} {r s : Found} → AtMask split n bs ps rows among left r → ¬ (left ≡ 0) → AtRoot split n bs ps rows (trailingZeros 64 left) j end es bits l fit h s → h < n → fit / 2 ^ h % 2 ≡ 1
+      → (b : Branch) → Shown b ps rows → Quiet split n (constraintsOf (read bs)) b among → Finds split n (constraintsOf (read bs)) b (record { number = trailingZeros 64 left; rule = j; root = record { 0 = h }; constraint = l; left = left })
+  unfolding constraintOf
+  search-hit {left = left} {j} {es = es} {fit = fit} {h} m more a k z b y q =
+      let i : ℕ = trailingZeros 64 left in
+      let c : calculus.Constraint = constraintOf bs i in
+      let t : bit fit h ≡ true = sym (bit-shr fit h) ∙ eq-eqb (fit / 2 ^ h % 2) 1 z in
+      let g = map-eq-some-iff (λ (p : ℕ). moveAt b c j p .0 .index) (firstAt n b c j) .0 (a .left b y ∙ position-hit (bit fit) h n k t) in
+      let p : ℕ = g .0 in
+      let f : firstAt n b c j ≡ some p = g .1 in
+      let v : InSpan (spanOf split c) j = in-span (a .rule) (a .in-span) in
+      let d = a .rule .here in
+      let fall : Falls (b .parents) = subst Falls (sym (y .parents-are)) (d .falls) in
+      let e : ConstraintIn 64 8 c = subst (ConstraintIn 64 8) (sym (d .unpacked .is)) (d .unpacked .handled .in-range) in
+      let w = position-of n b c j p fall (d .few) e (rule-of split c j v) f in
+      record {
+        position = p;
+        first-is = rw (ne-eqb j 0 (not-0 split c j v)) (place-at split n b (constraintsOf (read bs)) i (moveAt b c j p) (d .in-problem) (λ x l. m .quiet b y q x (omega (arith, d .in-problem)) (below-lowest 64 left x l)) (first-offer split n b c j p v (a .rule .passed b y) f));
+        there = λ _. record {
+          within = record { in-problem = d .in-problem; of-rule = v; of-entry = w .0; of-root = λ o. w .1 o };
+          concerns = ap term (g .2);
+          low = k;
+          rooted = subst (λ (x : ℕ). rootAt b x ≡ x) (g .2) (concerned-root n b fall c j p (d .few) e (rule-of split c j v) f);
+          entries = es;
+          opened = d .unpacked .is;
+          handled = d .unpacked .handled;
+        };
+        none = λ o. absurd (not-0 split c j v o);
+        quiet = m .quiet b y q;
+        low = m .low;
+      }

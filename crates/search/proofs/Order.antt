@@ -1,12 +1,12 @@
--- The order of the search. What is left from a constraint, a rule or a position on is a list whose first candidate is sought: it is found at the head, or in the rest, or there is none.
-use mathlib.Core.Path.{_≡_, refl, sym, ap, _∙_}
+-- The order of the search. The first place is at the first rule that applies of the first constraint that is not idle; if all are idle, there is none.
+use mathlib.Core.Path.{_≡_, refl, sym, ap, ap₂, _∙_, subst}
 use mathlib.Core.Bool.{Bool, true, false}
 use mathlib.Core.Option.{Option, none, some, Option·map}
-use mathlib.Core.List.{List, _++_, map}
-use Prim.Native.Nat.{ℕ, suc, _+_, _-_, _<_, _≤_}
-use native.Mathlib.Numerals.{add-one}
-use lib.ListN.{length, getD, drop, drop-of-length-le}
-use lib.Seq.{drop-cons}
+use mathlib.Core.List.{List, [], _∷_, _++_, map}
+use Prim.Native.Nat.{ℕ, zero, suc, _+_, _-_, _<_, _≤_}
+use native.Mathlib.Omega.{arith}
+use native.Mathlib.Decide.{ℕ-discrete}
+use lib.ListN.{length, getD}
 use Rattle.calculus.specs.Lists.{upFrom, first, gather}
 use Rattle.calculus.specs.Terms.{Term}
 use Rattle.calculus.specs.Relations.{applies}
@@ -16,9 +16,10 @@ use Rattle.calculus.specs.Search.{Move, Candidate, candidates}
 use Rattle.calculus.proofs.SearchLaws.{first-stop, first-next, first-left, first-none-app}
 use Rattle.questions.proofs.Constants.{up-more, up-done}
 use Rattle.problem.specs.Table.{noConstraint}
-use Rattle.places.specs.Places.{spanOf, moveAt, positions, firstAt, offers}
+use Rattle.places.specs.Places.{spanOf, InSpan, moveAt, positions, firstAt, offers}
 use Rattle.places.proofs.Offered.{offered}
 use Rattle.rules.proofs.Lowest.{first-map}
+use Rattle.quiet.specs.Quiet.{Idle}
 use Rattle.search.specs.First.{firstPlace}
 
 -- ---- positions from k up to n
@@ -33,86 +34,79 @@ module _ (p : ℕ → Bool) (k n : ℕ) where
   pub positions-done : n ≤ k → first p (upFrom k (n - k)) ≡ none
   positions-done l = ap (first p) (up-done k n l)
 
--- ---- rules of a constraint from rule j on
+-- ---- m lists in a row, from list a on
 
-module _ (split : Bool) (n : ℕ) (b : Branch) (l : Constraint) where
+module _ {X : Type 0} (p : X → Bool) (f : ℕ → List X) where
+  -- none has one
+  row-none : (m a : ℕ) → ((k : ℕ) → a ≤ k → k < a + m → first p (f k) ≡ none) → first p (gather f (upFrom a m)) ≡ none
+  row-none zero a h = refl
+  row-none (suc m) a h = first-none-app p (f a) (gather f (upFrom (suc a) m)) (h a (omega arith) (omega arith)) ∙ row-none m (suc a) (λ k l g. h k (omega arith) (omega arith))
+
+  -- list j is the first that has one
+  row-first : (m a j : ℕ) (x : X) → a ≤ j → j < a + m → ((k : ℕ) → a ≤ k → k < j → first p (f k) ≡ none) → first p (f j) ≡ some x → first p (gather f (upFrom a m)) ≡ some x
+  row-first zero a j x l g h e = absurd (omega arith)
+  row-first (suc m) a j x l g h e = go (ℕ-discrete a j) (row-first m (suc a) j x)
+    where
+      go : Dec (a ≡ j) → (suc a ≤ j → j < suc a + m → ((k : ℕ) → suc a ≤ k → k < j → first p (f k) ≡ none) → first p (f j) ≡ some x → first p (gather f (upFrom (suc a) m)) ≡ some x) → first p (f a ++ gather f (upFrom (suc a) m)) ≡ some x
+      go (yes q) ih = first-left p (f a) (gather f (upFrom (suc a) m)) x (ap (λ (k : ℕ). first p (f k)) q ∙ e)
+      go (no q) ih = first-none-app p (f a) (gather f (upFrom (suc a) m)) (h a (omega arith) (omega arith)) ∙ ih (omega arith) (omega arith) (λ k l g. h k (omega arith) g) e
+
+-- ---- rules of a constraint
+
+module _ (split : Bool) (n : ℕ) (b : Branch) where
   abbrev holds : Term × Move → Bool
   holds m = applies (known b) (m .1)
 
-  abbrev end : ℕ
-  end = spanOf split l .1
+  module _ (l : Constraint) where
+    abbrev start : ℕ
+    start = spanOf split l .0
 
-  abbrev moves : ℕ → List (Term × Move)
-  moves j = map (moveAt b l j) (positions n b l j)
+    abbrev count : ℕ
+    count = spanOf split l .1 - spanOf split l .0
 
-  unfoldable pub rulesFrom : ℕ → Option (Term × Move)
-  rulesFrom j = first holds (gather moves (upFrom j (end - j)))
-
-  module _ (j : ℕ) where
-    abbrev after : List (Term × Move)
-    after = gather moves (upFrom (j + 1) (end - (j + 1)))
-
-    rules-more : j < end → rulesFrom j ≡ first holds (moves j ++ after)
-    unfolding rulesFrom
-    rules-more h = ap (λ (ks : List ℕ). first holds (gather moves ks)) (up-more j end h)
+    abbrev moves : ℕ → List (Term × Move)
+    moves j = map (moveAt b l j) (positions n b l j)
 
     -- a rule's first move is that at its first position
-    by-rule : (o : Option ℕ) → firstAt n b l j ≡ o → first holds (moves j) ≡ Option·map (moveAt b l j) o
-    by-rule o e = first-map holds (moveAt b l j) (positions n b l j) ∙ ap (Option·map (moveAt b l j)) e
+    by-rule : (j : ℕ) (o : Option ℕ) → firstAt n b l j ≡ o → first holds (moves j) ≡ Option·map (moveAt b l j) o
+    by-rule j o e = first-map holds (moveAt b l j) (positions n b l j) ∙ ap (Option·map (moveAt b l j)) e
 
-    pub rule-hit : j < end → (p : ℕ) → firstAt n b l j ≡ some p → rulesFrom j ≡ some (moveAt b l j p)
-    rule-hit h p e = rules-more h ∙ first-left holds (moves j) after (moveAt b l j p) (by-rule (some p) e)
+    idle-offers : Idle split n b l → first holds (offers split n b l) ≡ none
+    idle-offers h = ap (first holds) (offered split n b l) ∙ row-none holds moves count start (λ k a g. by-rule k none (h k (a, omega arith)))
 
-    pub rule-miss : j < end → firstAt n b l j ≡ none → rulesFrom j ≡ rulesFrom (j + 1)
-    unfolding rulesFrom
-    rule-miss h e = rules-more h ∙ first-none-app holds (moves j) after (by-rule none e)
+    pub first-offer : (j p : ℕ) → InSpan (spanOf split l) j → ((k : ℕ) → InSpan (spanOf split l) k → k < j → firstAt n b l k ≡ none) → firstAt n b l j ≡ some p → first holds (offers split n b l) ≡ some (moveAt b l j p)
+    first-offer j p v h e = ap (first holds) (offered split n b l) ∙ row-first holds moves count start j (moveAt b l j p) (v .0) (omega (arith, v .0, v .1)) (λ k a g. by-rule k none (h k (a, omega (arith, v .1)) g)) (by-rule j (some p) e)
 
-    pub rules-done : end ≤ j → rulesFrom j ≡ none
-    unfolding rulesFrom
-    rules-done h = ap (λ (ks : List ℕ). first holds (gather moves ks)) (up-done j end h)
+  -- ---- constraints
 
--- ---- constraints from constraint i on
-
-module _ (split : Bool) (n : ℕ) (ls : List Constraint) (b : Branch) where
   abbrev passed : Candidate → Bool
   passed c = applies (known b) (c .move)
 
-  unfoldable pub constraintsFrom : ℕ → Option Candidate
-  constraintsFrom i = first passed (candidates (offers split n b) i (drop i ls))
+  abbrev candidate : ℕ → Term × Move → Candidate
+  candidate i m = record { constraint = i; concerned = m .0; move = m .1 }
 
-  pub constraints-begin : firstPlace split n ls b ≡ constraintsFrom 0
-  unfolding firstPlace constraintsFrom
-  constraints-begin = refl
+  -- the candidates of constraints that g has by number, from constraint i on
+  by-number : (g : ℕ → Constraint) (ls : List Constraint) (i : ℕ) → ((k : ℕ) → getD ls k noConstraint ≡ g (i + k)) → candidates (offers split n b) i ls ≡ gather (λ (k : ℕ). map (candidate k) (offers split n b (g k))) (upFrom i (length ls))
+  by-number g [] i h = refl
+  by-number g (l ∷ ls) i h =
+      ap₂ (λ (x : Constraint) (xs : List Candidate). map (candidate i) (offers split n b x) ++ xs) (h 0 ∙ ap g (omega arith)) (by-number g ls (suc i) (λ k. h (suc k) ∙ ap g (omega arith)))
 
-  pub constraints-done : (i : ℕ) → length ls ≤ i → constraintsFrom i ≡ none
-  unfolding constraintsFrom
-  constraints-done i h = ap (λ (xs : List Constraint). first passed (candidates (offers split n b) i xs)) (drop-of-length-le ls h)
+  module _ (ls : List Constraint) where
+    abbrev this : ℕ → Constraint
+    this i = getD ls i noConstraint
 
-  module _ (i : ℕ) where
-    abbrev this : Constraint
-    this = getD ls i noConstraint
+    abbrev own : ℕ → List Candidate
+    own i = map (candidate i) (offers split n b (this i))
 
-    abbrev candidate : Term × Move → Candidate
-    candidate m = record { constraint = i; concerned = m .0; move = m .1 }
+    by-constraint : firstPlace split n ls b ≡ first passed (gather own (upFrom 0 (length ls)))
+    unfolding firstPlace
+    by-constraint = ap (first passed) (by-number this ls 0 (λ k. ap this (omega arith)))
 
-    abbrev own : List Candidate
-    own = map candidate (offers split n b this)
+    idle-own : (i : ℕ) → Idle split n b (this i) → first passed (own i) ≡ none
+    idle-own i h = first-map passed (candidate i) (offers split n b (this i)) ∙ ap (Option·map (candidate i)) (idle-offers (this i) h)
 
-    abbrev others : List Candidate
-    others = candidates (offers split n b) (suc i) (drop (suc i) ls)
+    pub no-place : ((i : ℕ) → i < length ls → Idle split n b (this i)) → firstPlace split n ls b ≡ none
+    no-place h = by-constraint ∙ row-none passed own (length ls) 0 (λ k a g. idle-own k (h k (omega arith)))
 
-    constraints-more : i < length ls → constraintsFrom i ≡ first passed (own ++ others)
-    unfolding constraintsFrom
-    constraints-more h = ap (λ (xs : List Constraint). first passed (candidates (offers split n b) i xs)) (drop-cons ls i noConstraint h)
-
-    -- a constraint's first candidate is its first move, from its first rule on
-    by-constraint : (o : Option (Term × Move)) → rulesFrom split n b this (spanOf split this .0) ≡ o → first passed own ≡ Option·map candidate o
-    unfolding rulesFrom
-    by-constraint o e = first-map passed candidate (offers split n b this) ∙ ap (Option·map candidate) (ap (first (holds split n b this)) (offered split n b this) ∙ e)
-
-    pub constraint-hit : i < length ls → (m : Term × Move) → rulesFrom split n b this (spanOf split this .0) ≡ some m → constraintsFrom i ≡ some (candidate m)
-    constraint-hit h m e = constraints-more h ∙ first-left passed own others (candidate m) (by-constraint (some m) e)
-
-    pub constraint-miss : i < length ls → rulesFrom split n b this (spanOf split this .0) ≡ none → constraintsFrom i ≡ constraintsFrom (i + 1)
-    unfolding constraintsFrom
-    constraint-miss h e = constraints-more h ∙ first-none-app passed own others (by-constraint none e) ∙ ap (λ (k : ℕ). first passed (candidates (offers split n b) k (drop k ls))) (sym (add-one i))
+    pub place-at : (i : ℕ) (m : Term × Move) → i < length ls → ((k : ℕ) → k < i → Idle split n b (this k)) → first holds (offers split n b (this i)) ≡ some m → firstPlace split n ls b ≡ some (candidate i m)
+    place-at i m l h e = by-constraint ∙ row-first passed own (length ls) 0 i (candidate i m) (omega arith) (omega arith) (λ k a g. idle-own k (h k g)) (first-map passed (candidate i) (offers split n b (this i)) ∙ ap (Option·map (candidate i)) e)

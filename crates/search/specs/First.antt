@@ -1,13 +1,13 @@
 -- What a search is given, and what it answers: the first place of the calculus where a rule applies.
 use mathlib.Core.Path.{_≡_}
-use mathlib.Core.Bool.{Bool, cond}
+use mathlib.Core.Bool.{Bool, true, cond}
 use mathlib.Core.Option.{Option, none, some}
 use mathlib.Core.List.{List, map}
-use Prim.Native.Nat.{ℕ, _^_, _<_}
+use Prim.Native.Nat.{ℕ, _<_}
 use lib.ListN.{length, getD}
 use lib.Dec.{eqb}
-use Rattle.calculus.specs.Lists.{upFrom, any, first, bit}
-use Rattle.calculus.specs.Terms.{Term, term}
+use Rattle.calculus.specs.Lists.{upFrom, first, bit}
+use Rattle.calculus.specs.Terms.{term}
 use Rattle.calculus.specs.Relations.{applies}
 use Rattle.calculus.specs.Meaning.{Constraint}
 use Rattle.calculus.specs.Branch.{Branch, rootAt, known}
@@ -18,19 +18,14 @@ use Rattle.problem.specs.Table.{Tabled, constraintsOf, noConstraint}
 use Rattle.constraints.specs.declared.Constraint.the-variants.{Same}
 use Rattle.constraints.specs.Decoded.{decoded, Handled}
 use Rattle.places.specs.Places.{spanOf, InSpan, moveAt, entriesOf, offers}
+use Rattle.quiet.specs.Quiet.{Quiet, WordsOf}
 use Rattle.search.specs.declared.Found.{Found}
 
--- The word of each constraint has its entries as bits.
-pub record ListedOf (ls : List Constraint) (listed : List ℕ) : Type 0 where
-  pub long : length listed ≡ 48
-  pub bits : (i : ℕ) → i < length ls → (h : ℕ) → bit (getD listed i 0) h ≡ any (λ (e : Term). eqb (e .index) h) (entriesOf (getD ls i noConstraint))
-  pub small : (i : ℕ) → i < length ls → getD listed i 0 < 2 ^ 64
-
--- What is prepared once a run: the table, the numbers 0 to 63, and the words of the constraints.
-pub record Prepared (bs numbers : List ℕ) (totals : Totals) (offsets witnesses listed : List ℕ) : Type 0 where
+-- What is prepared once a run: the table, the numbers 0 to 63, and the words by constraint and by literal.
+pub record Prepared (bs numbers : List ℕ) (totals : Totals) (offsets witnesses words : List ℕ) : Type 0 where
   pub tabled : Tabled bs totals offsets witnesses
   pub numbers-are : numbers ≡ upFrom 0 64
-  pub listed-are : ListedOf (constraintsOf (read bs)) listed
+  pub words-are : WordsOf (constraintsOf (read bs)) words
 
 -- A place by numbers. The position is an entry's number for rule 19, and the root for any other rule.
 pub record Spot : Type 0 where
@@ -73,11 +68,13 @@ pub record Located (split : Bool) (n : ℕ) (ls : List Constraint) (b : Branch) 
 
 -- The answer where no rule applies.
 abbrev pub nowhere : Found
-nowhere = record { number = 0; rule = 0; root = record { 0 = 0 }; constraint = Same (record { 0 = 0 }) (record { 0 = 0 }) }
+nowhere = record { number = 0; rule = 0; root = record { 0 = 0 }; constraint = Same (record { 0 = 0 }) (record { 0 = 0 }); left = 0 }
 
--- The answer is the first place, with some position. If there is none, it is `nowhere`.
+-- The answer is the first place, with some position. If there is none, it is `nowhere`. Of the constraints that are not left none has a place.
 pub record Finds (split : Bool) (n : ℕ) (ls : List Constraint) (b : Branch) (r : Found) : Type 0 where
   pub position : ℕ
   pub first-is : firstPlace split n ls b ≡ found ls b (spot r position)
   pub there : ¬ (r .rule ≡ 0) → Located split n ls b r position
   pub none : r .rule ≡ 0 → r ≡ nowhere
+  pub quiet : Quiet split n ls b (r .left)
+  pub low : (i : ℕ) → bit (r .left) i ≡ true → i < length ls

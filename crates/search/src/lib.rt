@@ -1,93 +1,194 @@
-// The first place where a rule applies.
+// The first place where a rule applies, among the constraints that may have one.
+use bits::bit_at;
 use constraints::Constraint;
 use constraints::decode_at;
 use constraints::list_at;
 use problem::Totals;
 use rules::entry_bits;
 use rules::fitting;
+use rules::inside;
+use rules::row_of;
 use rules::span_of;
+use rules::split_of;
+use terms::SetVar;
 use terms::Term;
 ghost use mathlib.Core.Path.{_≡_};
-ghost use Rattle.calculus.specs.Lists.{upFrom};
+ghost use mathlib.Core.Bool.{true, _&&_};
+ghost use Prim.Native.Nat.{ℕ, _+_, _^_, _<_};
+ghost use lib.ListN.{length, getD};
+ghost use Rattle.calculus.specs.Lists.{upFrom, any, bit};
+ghost use Rattle.calculus.specs.Terms.{setVar};
+ghost use Rattle.calculus.specs.Relations.{Relation};
+ghost use Rattle.calculus.specs.Meaning.{relation};
 ghost use Rattle.calculus.specs.Branch.{Branch};
 ghost use Rattle.calculus.specs.Reading.{read};
-ghost use Rattle.problem.specs.Table.{Tabled, constraintsOf};
+ghost use Rattle.problem.specs.Table.{Tabled, Stands, constraintsOf, constraintOf, listed};
+ghost use Rattle.branch.specs.Rows.{literals};
+ghost use Rattle.constraints.specs.Decoded.{decoded};
+ghost use Rattle.places.specs.Places.{RuleOf};
+ghost use Rattle.rules.specs.Rows.{HasRow};
 ghost use Rattle.rules.specs.Words.{Lent, Shown};
-ghost use Rattle.search.specs.First.{ListedOf, Prepared, Finds};
+ghost use Rattle.quiet.specs.Quiet.{Quiet, WordsOf};
+ghost use Rattle.search.specs.Marks.{RuleNeeds, NeedsOf, Marked};
+ghost use Rattle.search.specs.First.{Prepared, Finds};
 
-// What a search answers: the number of a constraint, the rule, the root concerned, and the constraint itself. Rule 0 says that no rule applies.
+// What a search looks for, propagation rules or splits, and among which constraints, as bits.
+pub struct Scope {
+    pub split: bool,
+    pub among: u64,
+}
+
+// What a search answers: the number of a constraint, the rule, the root concerned, and the constraint itself. Rule 0 says that no rule applies. And the constraints, as bits, that were not looked through.
 pub struct Found {
     pub number: u8,
     pub rule: u8,
     pub root: Term,
     pub constraint: Constraint,
+    pub left: u64,
 }
 
-// The entries of each constraint as the bits of a word. The numbers are 0 to 63.
-pub fn listings<'a>(
+// The literals, as bits, that a propagation rule of sets needs. Bit 16 says that it needs two.
+fn premises(rule: u8, a: SetVar, b: SetVar, c: SetVar) -> u64
+    requires { ⌜ HasRow rule (a .0) (b .0) × (c .0 < 8) ⌝ }
+    ensures { λ r. ⌜ (r < 2 ^ 17) × ((k : Relation) → RuleOf (relation k (setVar (a .0)) (setVar (b .0)) (setVar (c .0))) rule → RuleNeeds (relation k (setVar (a .0)) (setVar (b .0)) (setVar (c .0))) rule r) ⌝ }
+{
+    let r = row_of(rule, a, b, c);
+    let word = bit_at(r.needs.0) | bit_at(r.also.0);
+    // Whether it needs two shows at three sets that differ.
+    let form = row_of(rule, SetVar(0), SetVar(1), SetVar(2));
+    if form.needs.0 == form.also.0 {
+        return word;
+    }
+    word | bit_at(16)
+}
+
+// The literals, as bits, that the rules of constraint i need. Bit 16 says that one of them needs two facts.
+fn needed(problem: &[u8], i: usize, at: usize, l: Constraint) -> u64
+    requires { ⌜ Stands (now problem) i at × (constraintOf (now problem) i ≡ decoded (listed (constraintOf (now problem) i)) l) ⌝ }
+    ensures { λ r. ⌜ NeedsOf (constraintOf (now (problem .entry)) i) r ⌝ }
+{
+    match l {
+        Constraint::Different(_, _) => bit_at(16),
+        Constraint::Related(_, a, b, c) => {
+            let kind = problem[at];
+            let span = span_of(kind, false);
+            let end = span.end;
+            let mut found = 0u64;
+            for j in span.first..end {
+                found = found | premises(j, a, b, c);
+            }
+            let rest = span_of(kind, true);
+            if rest.first < rest.end {
+                return found | bit_at(split_of(a, b, c).needs.0);
+            }
+            found
+        }
+        Constraint::Exactly(a) => bit_at(inside(a).0),
+        Constraint::Interval(a, _, _) => bit_at(inside(a).0),
+        _ => 0,
+    }
+}
+
+// Bit i is set in the words of these literals.
+fn mark(words: &mut [u64; 65], literals: u64, i: u8)
+    requires { ⌜ (length (now words) ≡ 65) × (literals < 2 ^ 17) × (i < 64) ⌝ }
+    ensures { λ _. ⌜ Marked literals i (now (words .entry)) (now (words .exit)) ⌝ }
+{
+    let one = bit_at(i);
+    let mut left = literals;
+    while left != 0 {
+        let k = 48 + u64::trailing_zeros(left) as usize;
+        words[k] = words[k] | one;
+        left = left & (left - 1);
+    }
+}
+
+// What a search and a step look up: by constraint its entries, by literal the constraints that need it, and last those that a merge can wake, all as bits. The numbers are 0 to 63.
+pub fn prepare<'a>(
     problem: &'a [u8],
     numbers: &'a [u8],
     totals: Totals,
     offsets: &'a [u16],
     witnesses: &'a [u8],
-) -> [u64; 48]
+) -> [u64; 65]
     requires { ⌜ Tabled (now problem) totals (now offsets) (now witnesses) × (now numbers ≡ upFrom 0 64) ⌝ }
-    ensures { λ r. ⌜ ListedOf (constraintsOf (read (now (problem .entry)))) r ⌝ }
+    ensures { λ r. ⌜ WordsOf (constraintsOf (read (now (problem .entry)))) r ⌝ }
 {
-    let mut listed = [0u64; 48];
+    let mut words = [0u64; 65];
     let count = totals.constraints;
     for i in 0..count {
         let n = i as usize;
         let at = offsets[n] as usize;
         let l = decode_at(problem, n, at, witnesses[n]);
         let entries = list_at(problem, numbers, n, at, l);
-        listed[n] = entry_bits(entries);
+        words[n] = entry_bits(entries);
+        let literals = needed(problem, n, at, l);
+        mark(&mut words, literals, i);
     }
-    listed
+    words
 }
 
-// The first place where a propagation rule applies, or, with `split`, where a split does. The numbers are 0 to 63, and `listed` is what `listings` answers.
+// The constraints, as bits, that need a literal of the masks.
+pub fn woken(words: &[u64], ins: u8, outs: u8) -> u64
+    requires { ⌜ length (now words) ≡ 65 ⌝ }
+    ensures { λ r. ⌜ ((i : ℕ) → bit r i ≡ any (λ k. bit (literals ins outs) k && bit (getD (now (words .entry)) (48 + k) 0) i) (upFrom 0 16)) ⌝ }
+{
+    let mut found = 0u64;
+    let mut left = (outs as u16) * 256 + (ins as u16);
+    while left != 0 {
+        let k = 48 + u16::trailing_zeros(left) as usize;
+        found = found | words[k];
+        left = left & (left - 1);
+    }
+    found
+}
+
+// The first place where a propagation rule applies, or where a split does. Of the constraints that the scope leaves out none has one. The numbers are 0 to 63, and `words` is what `prepare` answers.
 pub fn search<'a>(
     problem: &'a [u8],
     numbers: &'a [u8],
     totals: Totals,
     offsets: &'a [u16],
     witnesses: &'a [u8],
-    listed: &'a [u64],
+    words: &'a [u64],
     parents: &'a [u8],
     rows: &'a [u64],
-    split: bool,
+    scope: Scope,
 ) -> Found
-    requires { ⌜ Prepared (now problem) (now numbers) totals (now offsets) (now witnesses) (now listed) × Lent (now parents) (now rows) ⌝ }
-    ensures { λ r. ⌜ ((b : Branch) → Shown b (now (parents .entry)) (now (rows .entry)) → Finds split (totals .terms) (constraintsOf (read (now (problem .entry)))) b r) ⌝ }
+    requires { ⌜ Prepared (now problem) (now numbers) totals (now offsets) (now witnesses) (now words) × Lent (now parents) (now rows) × ((i : ℕ) → bit (scope .among) i ≡ true → i < totals .constraints) ⌝ }
+    ensures { λ r. ⌜ ((b : Branch) → Shown b (now (parents .entry)) (now (rows .entry)) → Quiet (scope .split) (totals .terms) (constraintsOf (read (now (problem .entry)))) b (scope .among) → Finds (scope .split) (totals .terms) (constraintsOf (read (now (problem .entry)))) b r) ⌝ }
 {
     let terms = totals.terms;
-    let count = totals.constraints;
+    let split = scope.split;
     let mut found = Found {
         number: 0,
         rule: 0,
         root: Term(0),
         constraint: Constraint::Same(Term(0), Term(0)),
+        left: 0,
     };
-    'search: for i in 0..count {
-        let n = i as usize;
+    let mut left = scope.among;
+    'search: while left != 0 {
+        let n = u64::trailing_zeros(left) as usize;
         let at = offsets[n] as usize;
         let span = span_of(problem[at], split);
         let end = span.end;
         if span.first < end {
             let l = decode_at(problem, n, at, witnesses[n]);
             let entries = list_at(problem, numbers, n, at, l);
-            let bits = listed[n];
+            let bits = words[n];
             for j in span.first..end {
                 let fit = fitting(parents, rows, entries, bits, l, j);
                 if fit != 0 {
                     for h in 0..terms {
                         if (fit >> h) % 2 == 1 {
+                            let number = n as u8;
                             found = Found {
-                                number: i,
+                                number: number,
                                 rule: j,
                                 root: Term(h),
                                 constraint: l,
+                                left: left,
                             };
                             break 'search;
                         }
@@ -95,6 +196,7 @@ pub fn search<'a>(
                 }
             }
         }
+        left = left & (left - 1);
     }
     found
 }

@@ -1,35 +1,38 @@
--- `search` meets its contract. Each loop keeps: nothing is found yet, and the first place is the first of what is left from its constraint, rule or root on. It ends: what is left of its range falls. The return at the end rests on nothing being left, the one from within on the bit that is set.
+-- `search` meets its contract. The outer loop keeps: nothing is found yet, and the constraints that are not left are idle. The inner two keep: the rules before rule j do not apply, and rule j applies at no root before h. Each ends: the mask, or what is left of its range, falls. The return at the end rests on nothing being left, the one from within on the bit that is set.
 use mathlib.Core.Logic.{⊎-elim}
-use Prim.Native.Nat.{_-_}
+use Prim.Native.Nat.{_-_, _<_}
 use native.Mathlib.Omega.{arith}
+use lib.Count.{trailingZeros}
 use borrow.Author.Needs.{needs}
-use Rattle.search.proofs.Finding.{Turn, turn-of, AtConstraint, AtRule, AtRoot, search-start, search-over, no-rules, rules-start, next-constraint, asked, no-roots, roots-start, next-rule, next-root, search-hit}
+use Rattle.bits.proofs.Count.{less-lt}
+use Rattle.search.proofs.Turns.{Turn, turn-of}
+use Rattle.search.proofs.Finding.{AtMask, AtRule, AtRoot, search-start, in-table, search-over, no-rules, rules-start, next-constraint, asked, no-roots, roots-start, next-rule, next-root, search-hit}
 use Rattle.search.proofs.search.Statement.{statement}
 use Rattle.search.proofs.search.Tie as tie
 
 abbrev Inv-loop2 : tie.InvT-loop2
-Inv-loop2 problem numbers offsets witnesses listed parents rows split terms count found₀ i n at end l entries bits j fit h₀ found h =
-    AtRoot split terms count problem parents rows i j end entries bits l fit h found
+Inv-loop2 problem numbers offsets witnesses words parents rows terms split found₀ left n at end l entries bits j fit h₀ found h =
+    AtRoot split terms problem parents rows n j end entries bits l fit h found
 
 abbrev μ-loop2 : tie.MeasureT-loop2
-μ-loop2 problem numbers offsets witnesses listed parents rows split terms count found₀ i n at end l entries bits j fit h₀ found h =
+μ-loop2 problem numbers offsets witnesses words parents rows terms split found₀ left n at end l entries bits j fit h₀ found h =
     terms - h
 
 abbrev Inv-loop : tie.InvT-loop
-Inv-loop problem numbers offsets witnesses listed parents rows split terms count found₀ i n at end l entries bits j₀ found j =
-    AtRule split terms count problem parents rows i j end entries bits l found
+Inv-loop problem numbers offsets witnesses words parents rows terms split found₀ left n at end l entries bits j₀ found j =
+    AtRule split terms problem parents rows n j end entries bits l found
 
 abbrev μ-loop : tie.MeasureT-loop
-μ-loop problem numbers offsets witnesses listed parents rows split terms count found₀ i n at end l entries bits j₀ found j =
+μ-loop problem numbers offsets witnesses words parents rows terms split found₀ left n at end l entries bits j₀ found j =
     end - j
 
 abbrev Inv-search : tie.InvT-search
-Inv-search problem numbers offsets witnesses listed parents rows split terms count found₀ i₀ found i =
-    AtConstraint split terms count problem parents rows i found
+Inv-search problem numbers offsets witnesses words parents rows terms split found₀ left₀ found left =
+    AtMask split terms problem parents rows left₀ left found
 
 abbrev μ-search : tie.MeasureT-search
-μ-search problem numbers offsets witnesses listed parents rows split terms count found₀ i₀ found i =
-    count - i
+μ-search problem numbers offsets witnesses words parents rows terms split found₀ left₀ found left =
+    left
 
 -- ---- the places
 
@@ -48,16 +51,23 @@ turn c = c .before .before .before .before
 abbrev spanned : tie.After-list-at Inv-loop2 μ-loop2 Inv-loop μ-loop Inv-search μ-search → tie.After-struct-known Inv-loop2 μ-loop2 Inv-loop μ-loop Inv-search μ-search
 spanned c = c .before .before .before .before
 
-there : (c : tie.In-search Inv-loop2 μ-loop2 Inv-loop μ-loop Inv-search μ-search) → Turn (start c .args .problem .now) (start c .args .offsets .now) (start c .args .witnesses .now) (c .before .search .i)
-there c = turn-of (start c .pre .0 .tabled) (c .search-test .taken)
+-- its turn, from where a root fits
+abbrev hit : tie.Then3 Inv-loop2 μ-loop2 Inv-loop μ-loop Inv-search μ-search → tie.In-search Inv-loop2 μ-loop2 Inv-loop μ-loop Inv-search μ-search
+hit c = turn (spanned (c .before .before .before .before .before .before .before .before))
+
+counted : (c : tie.In-search Inv-loop2 μ-loop2 Inv-loop μ-loop Inv-search μ-search) → trailingZeros 64 (c .before .search .left) < start c .args .totals .constraints
+counted c = in-table (start c .pre .0 .tabled) (c .before .search .inv) (c .search-test .taken)
+
+there : (c : tie.In-search Inv-loop2 μ-loop2 Inv-loop μ-loop Inv-search μ-search) → Turn (start c .args .problem .now) (start c .args .offsets .now) (start c .args .witnesses .now) (trailingZeros 64 (c .before .search .left))
+there c = turn-of (start c .pre .0 .tabled) (counted c)
 
 -- ---- the needs
 
 search-holds : tie.Need-search-holds Inv-loop2 μ-loop2 Inv-loop μ-loop Inv-search μ-search
-search-holds c = search-start (entry c .pre .0 .tabled) (entry c .pre .1) (entry c .args .split)
+search-holds c = search-start _ _ (entry c .args .scope .split) (entry c .pre .0 .tabled) (omega arith) (entry c .pre .2)
 
 cast-n : tie.Need-cast-n Inv-loop2 μ-loop2 Inv-loop μ-loop Inv-search μ-search
-cast-n c = search needs
+cast-n c = let t = there c in omega arith
 
 mul-at : tie.Need-mul-at Inv-loop2 μ-loop2 Inv-loop μ-loop Inv-search μ-search
 mul-at c = let t = there c in omega arith
@@ -87,10 +97,10 @@ mul-bits : tie.Need-mul-bits Inv-loop2 μ-loop2 Inv-loop μ-loop Inv-search μ-s
 mul-bits c = let t = there (turn (spanned c)) in omega arith
 
 shared-slice-read-bits : tie.Need-shared-slice-read-bits Inv-loop2 μ-loop2 Inv-loop μ-loop Inv-search μ-search
-shared-slice-read-bits c = let t = turn (spanned (c .before)) in let d = there t in omega (arith, start t .pre .0 .listed-are .long)
+shared-slice-read-bits c = let t = turn (spanned (c .before)) in let d = there t in omega (arith, start t .pre .0 .words-are .long)
 
 loop-holds : tie.Need-loop-holds Inv-loop2 μ-loop2 Inv-loop μ-loop Inv-search μ-search
-loop-holds c = let w = spanned (c .before) in let t = turn w in rules-start (t .before .search .inv) (start t .pre .0) (t .search-test .taken) (w .before .span-of .ensures) (c .before .list-at .ensures)
+loop-holds c = let w = spanned (c .before) in let t = turn w in rules-start (t .before .search .inv .nothing) (start t .pre .0) (start t .pre .1) (counted t) (w .before .span-of .ensures) (c .before .list-at .ensures)
 
 fitting-requires : tie.Need-fitting-requires Inv-loop2 μ-loop2 Inv-loop μ-loop Inv-search μ-search
 fitting-requires c κs = (start (turn (spanned (c .before .before .before))) .pre .1, asked (c .before .loop .inv) (c .loop-test .taken))
@@ -102,10 +112,13 @@ cast-if3 : tie.Need-cast-if3 Inv-loop2 μ-loop2 Inv-loop μ-loop Inv-search μ-s
 cast-if3 c = search needs
 
 shr-if3 : tie.Need-shr-if3 Inv-loop2 μ-loop2 Inv-loop μ-loop Inv-search μ-search
-shr-if3 c = omega (arith, c .before .loop2 .inv .rule .turn .few)
+shr-if3 c = omega (arith, c .before .loop2 .inv .rule .here .few)
+
+cast-number : tie.Need-cast-number Inv-loop2 μ-loop2 Inv-loop μ-loop Inv-search μ-search
+cast-number c = let t = there (hit c) in omega arith
 
 add-h : tie.Need-add-h Inv-loop2 μ-loop2 Inv-loop μ-loop Inv-search μ-search
-add-h c = omega (arith, c .before .before .loop2 .inv .rule .turn .few)
+add-h c = omega (arith, c .before .before .loop2 .inv .rule .here .few)
 
 loop2-less : tie.Need-loop2-less Inv-loop2 μ-loop2 Inv-loop μ-loop Inv-search μ-search
 loop2-less c = omega arith
@@ -123,27 +136,27 @@ loop-again : tie.Need-loop-again Inv-loop2 μ-loop2 Inv-loop μ-loop Inv-search 
 loop-again c = let r = c .before .before in
     ⊎-elim
     (λ w. next-rule (w .1 .inv) (w .2 .left) (w .3))
-    (λ w. no-roots (r .before .loop .inv) (c .before .fitting .ensures) (r .loop-test .taken) (w .0 .left) (w .1))
+    (λ w. no-roots (r .before .loop .inv) (c .before .fitting .ensures) (w .0 .left) (w .1))
     (c .if2 .came)
 
-add-i : tie.Need-add-i Inv-loop2 μ-loop2 Inv-loop μ-loop Inv-search μ-search
-add-i c = let t = there (turn (c .before)) in omega arith
+sub-left : tie.Need-sub-left Inv-loop2 μ-loop2 Inv-loop μ-loop Inv-search μ-search
+sub-left c = omega (arith, turn (c .before) .search-test .taken)
 
 search-less : tie.Need-search-less Inv-loop2 μ-loop2 Inv-loop μ-loop Inv-search μ-search
-search-less c = omega arith
+search-less c = let t = turn (c .before) in less-lt (t .before .search .left) (t .search-test .taken)
 
 search-again : tie.Need-search-again Inv-loop2 μ-loop2 Inv-loop μ-loop Inv-search μ-search
 search-again c = let t = turn (c .before) in
     ⊎-elim
-    (λ w. next-constraint (w .5 .inv) (w .6 .left) (w .7))
-    (λ w. no-rules (t .before .search .inv) (there t) (c .before .before .span-of .ensures) (w .0 .left) (w .1))
+    (λ w. next-constraint (t .before .search .inv) (t .search-test .taken) (w .5 .inv) (w .6 .left) (w .7))
+    (λ w. no-rules (t .before .search .inv) (t .search-test .taken) (there t) (c .before .before .span-of .ensures) (w .0 .left) (w .1))
     (c .if1 .came)
 
 returns : tie.Need-returns Inv-loop2 μ-loop2 Inv-loop μ-loop Inv-search μ-search
 returns c = search-over (c .before .search .inv) (c .search-test .left)
 
 returns-2 : tie.Need-returns-2 Inv-loop2 μ-loop2 Inv-loop μ-loop Inv-search μ-search
-returns-2 c = search-hit (c .before .before .loop2 .inv) (c .before .loop2-test .taken) (c .if3 .taken)
+returns-2 c = let t = hit c in search-hit (t .before .search .inv) (t .search-test .taken) (c .before .before .loop2 .inv) (c .before .loop2-test .taken) (c .if3 .taken)
 
 pub search-spec : {M : Type 1} → statement M
-search-spec = tie.close (tie.spec Inv-loop2 μ-loop2 Inv-loop μ-loop Inv-search μ-search search-holds cast-n mul-at shared-slice-read-at cast-at shared-slice-read-span-of span-of-requires shared-slice-read-decode-at decode-at-requires list-at-requires mul-bits shared-slice-read-bits loop-holds fitting-requires loop2-holds cast-if3 shr-if3 add-h loop2-less loop2-again add-j loop-less loop-again add-i search-less search-again returns returns-2)
+search-spec = tie.close (tie.spec Inv-loop2 μ-loop2 Inv-loop μ-loop Inv-search μ-search search-holds cast-n mul-at shared-slice-read-at cast-at shared-slice-read-span-of span-of-requires shared-slice-read-decode-at decode-at-requires list-at-requires mul-bits shared-slice-read-bits loop-holds fitting-requires loop2-holds cast-if3 shr-if3 cast-number add-h loop2-less loop2-again add-j loop-less loop-again sub-left search-less search-again returns returns-2)

@@ -1,18 +1,19 @@
--- `listings` meets its contract. The loop keeps: of each constraint before i the entries are listed as bits. It ends: count less i falls. The return rests on all constraints being before i.
-use mathlib.Core.Path.{refl}
+-- `prepare` meets its contract. The loop keeps: the words have the entries of each constraint before i and its bit at what its rules need, and no later constraint's. It ends: count less i falls. The return rests on all constraints being before i.
 use Prim.Native.Nat.{_-_}
 use native.Mathlib.Omega.{arith}
+use lib.ListN.{length-set}
 use borrow.Author.Needs.{needs}
 use Rattle.rules.proofs.FitLaws.{entries-below}
-use Rattle.search.proofs.Finding.{Turn, turn-of, Filled, fill-start, fill-next, fill-end}
-use Rattle.search.proofs.listings.Statement.{statement}
-use Rattle.search.proofs.listings.Tie as tie
+use Rattle.search.proofs.Turns.{Turn, turn-of}
+use Rattle.search.proofs.Marking.{Filled, fill-start, fill-next, fill-end}
+use Rattle.search.proofs.prepare.Statement.{statement}
+use Rattle.search.proofs.prepare.Tie as tie
 
 abbrev Inv-loop : tie.InvT-loop
-Inv-loop problem numbers offsets witnesses listed₀ count i₀ listed i = Filled problem listed i
+Inv-loop problem numbers offsets witnesses words₀ count i₀ words i = Filled problem words i
 
 abbrev μ-loop : tie.MeasureT-loop
-μ-loop problem numbers offsets witnesses listed₀ count i₀ listed i = count - i
+μ-loop problem numbers offsets witnesses words₀ count i₀ words i = count - i
 
 -- ---- the places
 
@@ -24,13 +25,17 @@ start c = c .before .before .before .before .before
 abbrev turn : tie.After-entry-bits Inv-loop μ-loop → tie.In-loop Inv-loop μ-loop
 turn c = c .before .before .before .before .before
 
+-- where its entries are bits, from where it is marked
+abbrev marked : tie.After-mark Inv-loop μ-loop → tie.After-entry-bits Inv-loop μ-loop
+marked c = c .before .before .before
+
 there : (c : tie.In-loop Inv-loop μ-loop) → Turn (start (c .before) .args .problem .now) (start (c .before) .args .offsets .now) (start (c .before) .args .witnesses .now) (c .before .loop .i)
 there c = turn-of (start (c .before) .pre .0) (c .loop-test .taken)
 
 -- ---- the needs
 
 loop-holds : tie.Need-loop-holds Inv-loop μ-loop
-loop-holds c = fill-start _ _ refl
+loop-holds c = fill-start _
 
 cast-n : tie.Need-cast-n Inv-loop μ-loop
 cast-n c = search needs
@@ -56,23 +61,29 @@ list-at-requires c κs = let t = c .before .before .before in (there t .stands, 
 entry-bits-requires : tie.Need-entry-bits-requires Inv-loop μ-loop
 entry-bits-requires c κs = entries-below _ _ (c .list-at .ensures .handled)
 
-mul-listed : tie.Need-mul-listed Inv-loop μ-loop
-mul-listed c = let t = there (turn c) in omega arith
+mul-words : tie.Need-mul-words Inv-loop μ-loop
+mul-words c = let t = there (turn c) in omega arith
 
-array-write-listed : tie.Need-array-write-listed Inv-loop μ-loop
-array-write-listed c = let t = there (turn c) in omega (arith, turn c .before .loop .inv .long)
+array-write-words : tie.Need-array-write-words Inv-loop μ-loop
+array-write-words c = let t = there (turn c) in omega (arith, turn c .before .loop .inv .long)
+
+needed-requires : tie.Need-needed-requires Inv-loop μ-loop
+needed-requires c κs = (there (turn c) .stands, c .before .before .decode-at .ensures)
+
+mark-requires : tie.Need-mark-requires Inv-loop μ-loop
+mark-requires c κs = let t = turn (c .before .before) in (simp length-set (t .before .loop .inv .long), c .before .needed .ensures .small, omega (arith, there t .small))
 
 add-i : tie.Need-add-i Inv-loop μ-loop
-add-i c = let t = there (turn c) in omega arith
+add-i c = let t = there (turn (marked c)) in omega arith
 
 loop-less : tie.Need-loop-less Inv-loop μ-loop
 loop-less c = omega arith
 
 loop-again : tie.Need-loop-again Inv-loop μ-loop
-loop-again c = fill-next (turn c .before .loop .inv) (there (turn c) .small) (c .before .list-at .ensures) (c .entry-bits .ensures)
+loop-again c = let b = marked c in fill-next (turn b .before .loop .inv) (there (turn b)) (b .before .list-at .ensures) (b .entry-bits .ensures) (c .before .before .needed .ensures) (c .mark .ensures)
 
 returns : tie.Need-returns Inv-loop μ-loop
 returns c = fill-end (c .before .loop .inv) (start (c .before) .pre .0) (c .loop-test .left)
 
-pub listings-spec : {M : Type 1} → statement M
-listings-spec = tie.close (tie.spec Inv-loop μ-loop loop-holds cast-n mul-at shared-slice-read-at cast-at shared-slice-read-decode-at decode-at-requires list-at-requires entry-bits-requires mul-listed array-write-listed add-i loop-less loop-again returns)
+pub prepare-spec : {M : Type 1} → statement M
+prepare-spec = tie.close (tie.spec Inv-loop μ-loop loop-holds cast-n mul-at shared-slice-read-at cast-at shared-slice-read-decode-at decode-at-requires list-at-requires entry-bits-requires mul-words array-write-words needed-requires mark-requires add-i loop-less loop-again returns)
