@@ -65,7 +65,7 @@ pub fn span_of(kind: u8, split: bool) -> Span
 }
 
 // Rules 5, 6, 8 to 11 and 13 to 18, of sets a, b and c.
-fn row_of(rule: u8, a: SetVar, b: SetVar, c: SetVar) -> Row
+pub fn row_of(rule: u8, a: SetVar, b: SetVar, c: SetVar) -> Row
     requires { ⌜ HasRow rule a b ⌝ }
     ensures { λ r. ⌜ r ≡ laid (sets a b c) (numbered rule) ⌝ }
 {
@@ -92,7 +92,7 @@ fn row_of(rule: u8, a: SetVar, b: SetVar, c: SetVar) -> Row
 }
 
 // Rule 12.
-fn split_of(a: SetVar, b: SetVar, c: SetVar) -> Split
+pub fn split_of(a: SetVar, b: SetVar, c: SetVar) -> Split
     ensures { λ r. ⌜ r ≡ parted (sets a b c) (numbered 12) ⌝ }
 {
     Split(Literal(c.0), a, b)

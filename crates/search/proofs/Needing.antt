@@ -36,7 +36,8 @@ use Rattle.rules.specs.declared.Split.{Split}
 use Rattle.rules.specs.Spans.{Spanned}
 use Rattle.rules.specs.Rows.{HasRow, numbered, numberOf, head, last, laid, parted}
 use Rattle.rules.proofs.TableTests.{row-of}
-use Rattle.rules.proofs.FitLaws.{laid-low}
+use Rattle.rules.specs.Words.{LowRow, LowSplit}
+use Rattle.rules.proofs.RowBits.{laid-low, parted-low}
 use Rattle.quiet.specs.Quiet.{needs, pairs}
 use Rattle.search.specs.Marks.{RuleNeeds, NeedsOf}
 
@@ -118,33 +119,40 @@ module _ (k : Relation) (A B C j w : ℕ) where
 abbrev pub Premised : (A B C j w : ℕ) → Type 0
 Premised A B C j w = (w < 2 ^ 17) × ((k : Relation) → RuleOf (relation k (setVar A) (setVar B) (setVar C)) j → RuleNeeds (relation k (setVar A) (setVar B) (setVar C)) j w)
 
+-- a row laid out has literals
+pub row-low : {A B C : ℕ} (j : ℕ) → (A < 8) × (B < 8) × (C < 8) → {x : Row} → x ≡ laid (operandOf A B C) (numbered j) → LowRow x
+row-low {A} {B} {C} j low p = subst LowRow (sym p) (laid-low A B C low (numbered j))
+
+pub split-low : {A B C : ℕ} → (A < 8) × (B < 8) × (C < 8) → {x : Split} → x ≡ parted (operandOf A B C) (numbered 12) → LowSplit x
+split-low {A} {B} {C} low p = subst LowSplit (sym p) (parted-low A B C low (numbered 12))
+
 -- x is the rule laid out for its sets, and y for three that differ
-module _ {A B C : ℕ} (j : ℕ) (low : (A < 8) × (B < 8) × (C < 8)) {x y : Row} (p : x ≡ laid (operandOf A B C) (numbered j)) (q : y ≡ laid (operandOf 0 1 2) (numbered j)) {u v : ℕ} (m : u ≡ 2 ^ x .needs .0) (n : v ≡ 2 ^ x .also .0) where
+module _ {A B C : ℕ} (j : ℕ) (low : (A < 8) × (B < 8) × (C < 8)) {x y : Row} (p : x ≡ laid (operandOf A B C) (numbered j)) (q : y ≡ laid (operandOf 0 1 2) (numbered j)) {u v : ℕ} (m : u ≡ 2 ^ x .0 .0) (n : v ≡ 2 ^ x .1 .0) where
   abbrev both : ℕ
   both = bitOr u v
 
   both-small : both < 2 ^ 17
-  both-small = let l = laid-low A B C j low x p in or-lt 17 u v (rw m (pow-small (x .needs .0) (omega (arith, l .0)))) (rw n (pow-small (x .also .0) (omega (arith, l .1))))
+  both-small = let l = row-low j low p in or-lt 17 u v (rw m (pow-small (x .0 .0) (omega (arith, l .0)))) (rw n (pow-small (x .1 .0) (omega (arith, l .1))))
 
-  by-premises : (w : ℕ) → ((h : ℕ) → bit both h ≡ true → bit w h ≡ true) → (¬ (y .needs .0 ≡ y .also .0) → bit w 16 ≡ true) → (k : Relation) → RuleOf (relation k (setVar A) (setVar B) (setVar C)) j → RuleNeeds (relation k (setVar A) (setVar B) (setVar C)) j w
+  by-premises : (w : ℕ) → ((h : ℕ) → bit both h ≡ true → bit w h ≡ true) → (¬ (y .0 .0 ≡ y .1 .0) → bit w 16 ≡ true) → (k : Relation) → RuleOf (relation k (setVar A) (setVar B) (setVar C)) j → RuleNeeds (relation k (setVar A) (setVar B) (setVar C)) j w
   by-premises w f z k r =
       by-row k A B C j w (row-of k (setVar A) (setVar B) (setVar C) j r .is)
-      (subst (λ (t : Row). bit w (t .needs .0) ≡ true) p (f (x .needs .0) (bit-left u v (x .needs .0) (rw m (bit-own (x .needs .0))))))
-      (subst (λ (t : Row). bit w (t .also .0) ≡ true) p (f (x .also .0) (bit-right u v (x .also .0) (rw n (bit-own (x .also .0))))))
-      (λ e. z (subst (λ (t : Row). ¬ (t .needs .0 ≡ t .also .0)) (sym q) (eqb-false _ _ (not-t _ (rows-apart j e)))))
+      (subst (λ (t : Row). bit w (t .0 .0) ≡ true) p (f (x .0 .0) (bit-left u v (x .0 .0) (rw m (bit-own (x .0 .0))))))
+      (subst (λ (t : Row). bit w (t .1 .0) ≡ true) p (f (x .1 .0) (bit-right u v (x .1 .0) (rw n (bit-own (x .1 .0))))))
+      (λ e. z (subst (λ (t : Row). ¬ (t .0 .0 ≡ t .1 .0)) (sym q) (eqb-false _ _ (not-t _ (rows-apart j e)))))
 
-  pub one-premise : y .needs .0 ≡ y .also .0 → Premised A B C j both
+  pub one-premise : y .0 .0 ≡ y .1 .0 → Premised A B C j both
   one-premise e = (both-small, by-premises both (λ h g. g) (λ z. absurd (z e)))
 
   pub two-premises : {t : ℕ} → t ≡ 2 ^ 16 → Premised A B C j (bitOr both t)
   two-premises {t} e = (or-lt 17 both t both-small (rw e (omega arith)), by-premises (bitOr both t) (bit-left both t) (λ _. bit-right both t 16 (rw e (bit-own 16))))
 
 -- a split
-by-split : (k : Relation) (A B C j w : ℕ) → InSpan (splitSpan (relation k (setVar A) (setVar B) (setVar C))) j → (x : Split) → x ≡ parted (operandOf A B C) (numbered 12) → bit w (x .needs .0) ≡ true → RuleNeeds (relation k (setVar A) (setVar B) (setVar C)) j w
+by-split : (k : Relation) (A B C j w : ℕ) → InSpan (splitSpan (relation k (setVar A) (setVar B) (setVar C))) j → (x : Split) → x ≡ parted (operandOf A B C) (numbered 12) → bit w (x .0 .0) ≡ true → RuleNeeds (relation k (setVar A) (setVar B) (setVar C)) j w
 by-split equal A B C j w i x p u = absurd (omega (arith, i .1))
 by-split union A B C j w i x p u =
     let e : j ≡ 12 = omega (arith, i .0, i .1) in
-    let v : bit w C ≡ true = subst (λ (t : Split). bit w (t .needs .0) ≡ true) p u in
+    let v : bit w C ≡ true = subst (λ (t : Split). bit w (t .0 .0) ≡ true) p u in
     subst (λ (m : ℕ). RuleNeeds (relation union (setVar A) (setVar B) (setVar C)) m w) (sym e) (by-row union A B C 12 w refl v v (λ q. absurd (false≢true q)))
 by-split disjoint A B C j w i x p u = absurd (omega (arith, i .1))
 by-split subset A B C j w i x p u = absurd (omega (arith, i .1))
@@ -197,7 +205,7 @@ module _ {bs : List ℕ} {i at : ℕ} (st : Stands bs i at) (l : Coded) (is : co
     spans split h = h related (sym (kind-here bs i at st ∙ ap kindOf (matched e)))
 
     -- what `premises` is asked for
-    pub premises-asked : {first end j word : ℕ} → Spanned false (getD bs at 0) first end → Before own j word → j < end → HasRow j (A .0) (B .0) × (C .0 < 8)
+    pub premises-asked : {first end j word : ℕ} → Spanned false (getD bs at 0) first end → Before own j word → j < end → HasRow j A B × (C .0 < 8)
     premises-asked {first} {end} {j} h f b =
         let v : InSpan (propagationSpan related) j = (rw (matched e) at (f .begun), omega (arith, spans false h .1)) in
         let t = row-of (relationOf k) (setVar (A .0)) (setVar (B .0)) (setVar (C .0)) j (inl v) in
@@ -231,8 +239,8 @@ module _ {bs : List ℕ} {i at : ℕ} (st : Stands bs i at) (l : Coded) (is : co
       pub no-split : to ≤ from → NeedsOf own word
       no-split n = let q = spans true g in needs-with word (f .small) (λ x y. y) (λ m v. absurd (omega (arith, q .0, q .1, v .0, v .1)))
 
-      pub with-split : {x : Split} → x ≡ parted (operandOf (A .0) (B .0) (C .0)) (numbered 12) → {w : ℕ} → w ≡ 2 ^ x .needs .0 → NeedsOf own (bitOr word w)
-      with-split {x} p {w} q = needs-with (bitOr word w) (or-lt 17 word w (f .small) low) (λ y. bit-left word w y) (λ m v. by-split (relationOf k) (A .0) (B .0) (C .0) m (bitOr word w) v x p (bit-right word w (x .needs .0) (ap (λ (n : ℕ). bit n (x .needs .0)) q ∙ bit-own (x .needs .0))))
+      pub with-split : {x : Split} → x ≡ parted (operandOf (A .0) (B .0) (C .0)) (numbered 12) → {w : ℕ} → w ≡ 2 ^ x .0 .0 → NeedsOf own (bitOr word w)
+      with-split {x} p {w} q = needs-with (bitOr word w) (or-lt 17 word w (f .small) low) (λ y. bit-left word w y) (λ m v. by-split (relationOf k) (A .0) (B .0) (C .0) m (bitOr word w) v x p (bit-right word w (x .0 .0) (ap (λ (n : ℕ). bit n (x .0 .0)) q ∙ bit-own (x .0 .0))))
         where
           low : w < 2 ^ 17
           low = rw (q, p) (pow-small (C .0) (omega (arith, range e .2)))

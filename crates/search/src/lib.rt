@@ -6,7 +6,6 @@ use constraints::list_at;
 use problem::Totals;
 use rules::entry_bits;
 use rules::fitting;
-use rules::inside;
 use rules::row_of;
 use rules::span_of;
 use rules::split_of;
@@ -49,14 +48,14 @@ pub struct Found {
 
 // The literals, as bits, that a propagation rule of sets needs. Bit 16 says that it needs two.
 fn premises(rule: u8, a: SetVar, b: SetVar, c: SetVar) -> u64
-    requires { ⌜ HasRow rule (a .0) (b .0) × (c .0 < 8) ⌝ }
+    requires { ⌜ HasRow rule a b × (c .0 < 8) ⌝ }
     ensures { λ r. ⌜ (r < 2 ^ 17) × ((k : Relation) → RuleOf (relation k (setVar (a .0)) (setVar (b .0)) (setVar (c .0))) rule → RuleNeeds (relation k (setVar (a .0)) (setVar (b .0)) (setVar (c .0))) rule r) ⌝ }
 {
     let r = row_of(rule, a, b, c);
-    let word = bit_at(r.needs.0) | bit_at(r.also.0);
+    let word = bit_at(r.0.0) | bit_at(r.1.0);
     // Whether it needs two shows at three sets that differ.
     let form = row_of(rule, SetVar(0), SetVar(1), SetVar(2));
-    if form.needs.0 == form.also.0 {
+    if form.0.0 == form.1.0 {
         return word;
     }
     word | bit_at(16)
@@ -79,12 +78,12 @@ fn needed(problem: &[u8], i: usize, at: usize, l: Constraint) -> u64
             }
             let rest = span_of(kind, true);
             if rest.first < rest.end {
-                return found | bit_at(split_of(a, b, c).needs.0);
+                return found | bit_at(split_of(a, b, c).0.0);
             }
             found
         }
-        Constraint::Exactly(a) => bit_at(inside(a).0),
-        Constraint::Interval(a, _, _) => bit_at(inside(a).0),
+        Constraint::Exactly(a) => bit_at(a.0),
+        Constraint::Interval(a, _, _) => bit_at(a.0),
         _ => 0,
     }
 }

@@ -5,9 +5,7 @@ use mathlib.Core.Path.{_∙_, ap}
 use borrow.Author.Needs.{needs}
 use Rattle.constraints.proofs.Decoding.{two-operands}
 use Rattle.problem.specs.Table.{constraintOf}
-use Rattle.rules.specs.declared.Literal.{Literal}
-use Rattle.rules.proofs.FitLaws.{parted-low}
-use Rattle.search.proofs.Needing.{range, Before, different-needs, exactly-needs, interval-needs, others-need, premises-asked, needs-start, needs-next, no-split, with-split}
+use Rattle.search.proofs.Needing.{split-low, range, Before, different-needs, exactly-needs, interval-needs, others-need, premises-asked, needs-start, needs-next, no-split, with-split}
 use Rattle.search.proofs.needed.Statement.{statement}
 use Rattle.search.proofs.needed.Tie as tie
 
@@ -69,7 +67,7 @@ split-of-requires : tie.Need-split-of-requires Inv-loop μ-loop
 split-of-requires c κs = search needs
 
 bit-at-requires-2 : tie.Need-bit-at-requires-2 Inv-loop μ-loop
-bit-at-requires-2 c κs = let k = kind (looped (c .before .before)) in omega (arith, parted-low _ _ _ (range (start k .pre .0) _ (start k .pre .1) (k .before .before .l .given .1)) _ (c .split-of .ensures) .0)
+bit-at-requires-2 c κs = let k = kind (looped (c .before .before)) in omega (arith, split-low (range (start k .pre .0) _ (start k .pre .1) (k .before .before .l .given .1)) (c .split-of .ensures) .0)
 
 returns : tie.Need-returns Inv-loop μ-loop
 returns c = let s = c .before .before .before in let l = looped s in let k = kind l in with-split (start k .pre .0) _ (start k .pre .1) (k .before .before .l .given .1) (l .before .span-of .ensures) (s .before .before .loop-test .left) (l .loop .inv) (s .before .span-of2 .ensures) (c .before .split-of .ensures) (c .bit-at2 .ensures)
@@ -77,20 +75,14 @@ returns c = let s = c .before .before .before in let l = looped s in let k = kin
 enum-known-l-2 : tie.Need-enum-known-l-2 Inv-loop μ-loop
 enum-known-l-2 c = search needs
 
-inside-requires : tie.Need-inside-requires Inv-loop μ-loop
-inside-requires c κs = search needs
-
 bit-at-requires-3 : tie.Need-bit-at-requires-3 Inv-loop μ-loop
-bit-at-requires-3 c κs = let s = c .before .before .before .before .before in omega (arith, range (s .pre .0) _ (s .pre .1) (c .before .before .l2 .given .1) .0, ap (λ (x : Literal). x .0) (c .inside .ensures))
+bit-at-requires-3 c κs = let s = c .before .before .before .before in omega (arith, range (s .pre .0) _ (s .pre .1) (c .before .l2 .given .1) .0)
 
 enum-known-l-3 : tie.Need-enum-known-l-3 Inv-loop μ-loop
 enum-known-l-3 c = search needs
 
-inside-requires-2 : tie.Need-inside-requires-2 Inv-loop μ-loop
-inside-requires-2 c κs = search needs
-
 bit-at-requires-4 : tie.Need-bit-at-requires-4 Inv-loop μ-loop
-bit-at-requires-4 c κs = let s = c .before .before .before .before .before in omega (arith, range (s .pre .0) _ (s .pre .1) (c .before .before .l3 .given .1) .0, ap (λ (x : Literal). x .0) (c .inside2 .ensures))
+bit-at-requires-4 c κs = let s = c .before .before .before .before in omega (arith, range (s .pre .0) _ (s .pre .1) (c .before .l3 .given .1) .0)
 
 returns-2 : tie.Need-returns-2 Inv-loop μ-loop
 returns-2 c = let s = c .before .before .before .before in different-needs (s .pre .0) _ (s .pre .1) (c .before .enum-told .given .1) (c .bit-at .ensures)
@@ -99,13 +91,13 @@ returns-3 : tie.Need-returns-3 Inv-loop μ-loop
 returns-3 c = let l = looped (c .before) in let k = kind l in no-split (start k .pre .0) _ (start k .pre .1) (k .before .before .l .given .1) (l .before .span-of .ensures) (c .before .before .before .loop-test .left) (l .loop .inv) (c .before .before .span-of2 .ensures) (c .if1 .left)
 
 returns-4 : tie.Need-returns-4 Inv-loop μ-loop
-returns-4 c = let s = c .before .before .before .before .before .before in exactly-needs (s .pre .0) _ (s .pre .1) (c .before .before .before .l2 .given .1) (c .bit-at3 .ensures ∙ ap (λ (x : Literal). 2 ^ x .0) (c .before .inside .ensures))
+returns-4 c = let s = c .before .before .before .before .before in exactly-needs (s .pre .0) _ (s .pre .1) (c .before .before .l2 .given .1) (c .bit-at3 .ensures)
 
 returns-5 : tie.Need-returns-5 Inv-loop μ-loop
-returns-5 c = let s = c .before .before .before .before .before .before in interval-needs (s .pre .0) _ (s .pre .1) (c .before .before .before .l3 .given .1) (c .bit-at4 .ensures ∙ ap (λ (x : Literal). 2 ^ x .0) (c .before .inside2 .ensures))
+returns-5 c = let s = c .before .before .before .before .before in interval-needs (s .pre .0) _ (s .pre .1) (c .before .before .l3 .given .1) (c .bit-at4 .ensures)
 
 returns-6 : tie.Need-returns-6 Inv-loop μ-loop
 returns-6 c = let s = c .before .before in others-need (s .pre .0) (s .args .l) (s .pre .1) (c .match .keys5)
 
 pub needed-spec : {M : Type 1} → statement M
-needed-spec = tie.close (tie.spec Inv-loop μ-loop enum-told bit-at-requires enum-known-l shared-slice-read-kind span-of-requires loop-holds premises-requires add-j loop-less loop-again span-of-requires-2 split-of-requires bit-at-requires-2 returns enum-known-l-2 inside-requires bit-at-requires-3 enum-known-l-3 inside-requires-2 bit-at-requires-4 returns-2 returns-3 returns-4 returns-5 returns-6)
+needed-spec = tie.close (tie.spec Inv-loop μ-loop enum-told bit-at-requires enum-known-l shared-slice-read-kind span-of-requires loop-holds premises-requires add-j loop-less loop-again span-of-requires-2 split-of-requires bit-at-requires-2 returns enum-known-l-2 bit-at-requires-3 enum-known-l-3  bit-at-requires-4 returns-2 returns-3 returns-4 returns-5 returns-6)

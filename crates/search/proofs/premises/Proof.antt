@@ -2,8 +2,7 @@
 use Prim.Native.Nat.{_<_}
 use native.Mathlib.Omega.{arith}
 use borrow.Author.Needs.{needs}
-use Rattle.rules.proofs.FitLaws.{laid-low}
-use Rattle.search.proofs.Needing.{one-premise, two-premises}
+use Rattle.search.proofs.Needing.{row-low, one-premise, two-premises}
 use Rattle.search.proofs.premises.Statement.{statement}
 use Rattle.search.proofs.premises.Tie as tie
 
@@ -18,10 +17,10 @@ row-of-requires : tie.Need-row-of-requires
 row-of-requires c κs = search needs
 
 bit-at-requires : tie.Need-bit-at-requires
-bit-at-requires c κs = omega (arith, laid-low _ _ _ (start c .args .rule) (low (start c)) _ (c .row-of .ensures) .0)
+bit-at-requires c κs = omega (arith, row-low (start c .args .rule) (low (start c)) (c .row-of .ensures) .0)
 
 bit-at-requires-2 : tie.Need-bit-at-requires-2
-bit-at-requires-2 c κs = let r = c .before in omega (arith, laid-low _ _ _ (start r .args .rule) (low (start r)) _ (r .row-of .ensures) .1)
+bit-at-requires-2 c κs = let r = c .before in omega (arith, row-low (start r .args .rule) (low (start r)) (r .row-of .ensures) .1)
 
 row-of-requires-2 : tie.Need-row-of-requires-2
 row-of-requires-2 c κs = search needs
