@@ -16,7 +16,7 @@ use Rattle.output.specs.State.{putAt, state, counted, noted}
 use Rattle.output.proofs.Listing.{noted-there}
 use Rattle.output.proofs.Buffers.{put-length}
 use Rattle.solver.specs.declared.Inferred.{Inferred}
-use Rattle.solver.specs.Outcomes.{constants, constraints, remaining, Outcome, Leads, Settled, Going, Reached, Settles}
+use Rattle.solver.specs.Outcomes.{constants, constraints, remaining, Outcome, Leads, Settled, Ready, Going, Reached, Settles}
 use Rattle.solver.proofs.Working.{spent-outcome, closed-outcome, step-leads}
 use Rattle.solver.proofs.Taking.{Taking, Made, stepped, child-sound, child-less, closing, going}
 
@@ -33,14 +33,15 @@ module _ {bs : List ℕ} {tab : Table} {budget : ℕ} {b : Branch} {c : Counts} 
     reached-again w = record { leads = λ F t x. s .leads F t (w .leads F t x); less = omega (arith, s .less, w .less); sound = w .sound; going = w .going; same = w .same ∙ s .same }
 
     -- no further step applies
-    pub settles : Settled bs tab at → Settles bs tab budget b c T (record { branch = at; counts = d; settled = true }) U
-    settles q = record { reached = λ _. s; none-applies = λ _. q; ended = λ x. absurd (true≢false x) }
+    pub settles : (ripe : ℕ) → Settled bs tab at → Ready bs tab at 0 ripe → Settles bs tab budget b c T (record { branch = at; counts = d; ripe = ripe; settled = true }) U
+    settles ripe q y = record { reached = λ _. s; ready = λ _. y; none-applies = λ _. q; ended = λ x. absurd (true≢false x) }
 
     -- the branch is closed, or the budget spent
     pub ends : (r : Inferred) → r .settled ≡ false → (W : List ℕ) → ((F : List ℕ) → Outcome bs tab budget at (state d F U) (state (r .counts) F W)) → Settles bs tab budget b c T r W
     unfolding Leads
     ends r e W q = record {
       reached = λ x. absurd (true≢false (sym x ∙ e));
+      ready = λ x. absurd (true≢false (sym x ∙ e));
       none-applies = λ x. absurd (true≢false (sym x ∙ e));
       ended = λ _ F. s .leads F (state (r .counts) F W) (q F);
     }

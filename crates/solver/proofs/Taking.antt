@@ -15,12 +15,13 @@ use Rattle.calculus.specs.Relations.{equal, union, disjoint, subset, intersecti
 use Rattle.calculus.specs.Meaning.{Constraint, member, nonmember, same, different, relation, negation, exactly, interval}
 use Rattle.calculus.specs.Branch as calculus
 use Rattle.calculus.specs.Search.{Candidate, candidates, step, next, children}
-use Rattle.calculus.specs.Invariants.{WellFormed, measure}
+use Rattle.calculus.specs.Invariants.{WellFormed, ConstraintIn, measure}
 use Rattle.calculus.proofs.Bools.{first-some}
 use Rattle.calculus.proofs.Stepping.{step-fit}
 use Rattle.calculus.proofs.WorkOrder.{some-each}
 use Rattle.problem.specs.declared.Table.{Table}
 use Rattle.problem.specs.Table.{Opened, constraintOf, noConstraint}
+use Rattle.problem.proofs.Access.{opened-sizes}
 use Rattle.branch.specs.declared.Branch.{Branch}
 use Rattle.branch.specs.declared.Asserted.{Asserted}
 use Rattle.branch.specs.Held.{held, restrict, resultOf, Rowed, Sound}
@@ -33,11 +34,12 @@ use Rattle.places.proofs.Slots.{children-slots, move-rule, child-fit, propagati
 use Rattle.search.specs.declared.Found.{Found}
 use Rattle.search.specs.First.{candidateAt, found, firstPlace, spot, Located, Finds}
 use Rattle.step.specs.declared.Act.{Act}
-use Rattle.step.specs.Acts.{performed, Rooted, Placed, Somewhere, Acts}
+use Rattle.step.specs.Acts.{performed, Rooted, Under, Low, Placed, Somewhere, Acts}
 use Rattle.step.proofs.Placing.{placed}
 use Rattle.step.proofs.Performing.{performed-rowed}
 use Rattle.solver.specs.Outcomes.{constants, constraints, shown, remaining, Settled}
-use Rattle.solver.proofs.Opening.{in-range, among, terms-few}
+use Rattle.constraints.proofs.Decoding.{constraint-in}
+use Rattle.solver.proofs.Opening.{in-range, among, terms-few, place-there}
 use Rattle.solver.proofs.NextLaws.{found-next}
 use Rattle.solver.proofs.Working.{fit}
 
@@ -95,6 +97,13 @@ module _ {bs : List ℕ} {tab : Table} {split : Bool} {b : Branch} {r : Found} {
 
   low : r .root .0 < 64
   low = omega (arith, s .located .low, terms-few bs tab (s .opened))
+
+  -- its terms, and the root concerned, are the problem's
+  pub in-terms : ConstraintIn (tab .terms) 8 this
+  in-terms = subst (ConstraintIn (tab .terms) 8) (s .unpacked .is) (constraint-in bs tab (r .number) (s .opened) (place-there bs tab (s .opened) (r .number) (s .located .within .in-problem)) (tab .terms) 8 (omega arith) (opened-sizes bs tab (s .opened) .1))
+
+  pub low-act : (a : Act) → Low (r .constraint) es (r .root .0) a → Under (tab .terms) a
+  low-act a l = l (tab .terms) in-terms (s .located .low)
 
   -- it is a place of a step
   pub is-placed : Placed (b .parents) es (r .constraint) (r .rule) q (r .root .0)

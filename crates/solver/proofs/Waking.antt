@@ -53,33 +53,33 @@ wider-l a b i e = go (bit a i) (sym (bit-or a b i) ∙ e)
     go true z = z
     go false z = refl
 
-both-low : {a b i n : ℕ} → (bit a i ≡ true → i < n) → (bit b i ≡ true → i < n) → bit (bitOr a b) i ≡ true → i < n
-both-low {a} {b} {i} {n} f g e = go (bit a i) refl
+both-low : (a b i : ℕ) {n : ℕ} → (bit a i ≡ true → i < n) → (bit b i ≡ true → i < n) → bit (bitOr a b) i ≡ true → i < n
+both-low a b i {n} f g e = go (bit a i) refl
   where
     go : (x : Bool) → bit a i ≡ x → i < n
     go true z = f z
     go false z = g (ap (λ (x : Bool). x || bit b i) (sym z) ∙ sym (bit-or a b i) ∙ e)
 
--- one of the first numbers passes a test
+-- one of some numbers passes a test
+or-true : (x y : Bool) → y ≡ true → (x || y) ≡ true
+or-true true y z = refl
+or-true false y z = z
+
 some-up : (f : ℕ → Bool) (k m n : ℕ) → k ≤ m → m < k + n → f m ≡ true → any f (upFrom k n) ≡ true
 some-up f k m zero l h e = absurd (omega arith)
-some-up f k m (suc n) l h e = go (ℕ-discrete m k)
+some-up f k m (suc n) l h e = go (ℕ-discrete m k) (λ l h. some-up f (suc k) m n l h e)
   where
-    or-true : (x y : Bool) → y ≡ true → (x || y) ≡ true
-    or-true true y z = refl
-    or-true false y z = z
-
-    go : Dec (m ≡ k) → (f k || any f (upFrom (suc k) n)) ≡ true
-    go (yes q) = ap (λ (t : Bool). t || any f (upFrom (suc k) n)) (ap f (sym q) ∙ e)
-    go (no q) = or-true (f k) (any f (upFrom (suc k) n)) (some-up f (suc k) m n (omega arith) (omega arith) e)
+    go : Dec (m ≡ k) → (suc k ≤ m → m < suc k + n → any f (upFrom (suc k) n) ≡ true) → (f k || any f (upFrom (suc k) n)) ≡ true
+    go (yes q) r = ap (λ (t : Bool). t || any f (upFrom (suc k) n)) (ap f (sym q) ∙ e)
+    go (no q) r = or-true (f k) (any f (upFrom (suc k) n)) (r (omega arith) (omega arith))
 
 each-up : (f : ℕ → Bool) (P : Type 0) (k n : ℕ) → any f (upFrom k n) ≡ true → ((m : ℕ) → k ≤ m → m < k + n → f m ≡ true → P) → P
 each-up f P k zero e g = absurd (false≢true e)
-each-up f P k (suc n) e g = go (f k) refl
+each-up f P k (suc n) e g = go (f k) refl (λ z. each-up f P (suc k) n (ap (λ (t : Bool). t || any f (upFrom (suc k) n)) (sym z) ∙ e) (λ m l h. g m (omega arith) (omega arith)))
   where
-    go : (x : Bool) → f k ≡ x → P
-    go true z = g k (omega arith) (omega arith) z
-    go false z = each-up f P (suc k) n (ap (λ (t : Bool). t || any f (upFrom (suc k) n)) (sym z) ∙ e) (λ m l h. g m (omega arith) (omega arith))
+    go : (x : Bool) → f k ≡ x → (f k ≡ false → P) → P
+    go true z r = g k (omega arith) (omega arith) z
+    go false z r = r z
 
 -- ---- an act
 
@@ -108,6 +108,10 @@ module _ {bs numbers : List ℕ} {t : Totals} {offsets witnesses words : List �
   pub narrowed : {r : Found} → Finds false (t .terms) (constraints bs tab) (held b) r → Ready bs tab b (r .left) ripe
   narrowed f = record { sound = y .sound; propagation = f .quiet; splits = y .splits; wake-low = λ i e. counted (f .low i e); ripe-low = y .ripe-low }
 
+  -- a search for propagation rules that finds none
+  pub quieted : {r : Found} → Finds false (t .terms) (constraints bs tab) (held b) r → r .rule ≡ 0 → Ready bs tab b 0 ripe
+  quieted f z = subst (λ (k : ℕ). Ready bs tab b k ripe) (ap (λ (x : Found). x .left) (f .none z)) (narrowed f)
+
   pub narrowed-splits : {r : Found} → Finds true (t .terms) (constraints bs tab) (held b) r → Ready bs tab b wake (r .left)
   narrowed-splits f = record { sound = y .sound; propagation = y .propagation; splits = f .quiet; wake-low = y .wake-low; ripe-low = λ i e. counted (f .low i e) }
 
@@ -117,6 +121,6 @@ module _ {bs numbers : List ℕ} {t : Totals} {offsets witnesses words : List �
     sound = s;
     propagation = subst (λ (x : Asserted). Quiet false (t .terms) (constraints bs tab) (held (x .branch)) (bitOr wake w)) (sym e) (act-quiet (watched p) false wake w (y .sound) a r u k (y .propagation));
     splits = subst (λ (x : Asserted). Quiet true (t .terms) (constraints bs tab) (held (x .branch)) (bitOr ripe w)) (sym e) (act-quiet (watched p) true ripe w (y .sound) a r u k (y .splits));
-    wake-low = λ i. both-low (y .wake-low i) (λ x. counted (woken-low (watched p) a w k i x));
-    ripe-low = λ i. both-low (y .ripe-low i) (λ x. counted (woken-low (watched p) a w k i x));
+    wake-low = λ i. both-low wake w i (y .wake-low i) (λ x. counted (woken-low (watched p) a w k i x));
+    ripe-low = λ i. both-low ripe w i (y .ripe-low i) (λ x. counted (woken-low (watched p) a w k i x));
   }

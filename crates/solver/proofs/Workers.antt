@@ -43,8 +43,9 @@ use Rattle.output.proofs.Listing.{noted-there}
 use Rattle.output.proofs.Playing.{play-kept}
 use Rattle.output.proofs.Tallied.{log-shaped}
 use Rattle.solver.specs.declared.Inferred.{Inferred}
+use Rattle.solver.specs.declared.Run.{Run}
 use Rattle.solver.specs.declared.Split.{Split}
-use Rattle.solver.specs.Outcomes.{constants, constraints, placed, shown, remaining, events, Outcome, Leads, childrenFrom, ChildrenOutcome, SplitOutcome, Settled, Splits, Begun, Settles}
+use Rattle.solver.specs.Outcomes.{constants, constraints, placed, shown, remaining, events, Outcome, Leads, childrenFrom, ChildrenOutcome, SplitOutcome, Settled, Ready, Splits, Begun, Settles}
 use Rattle.solver.proofs.Opening.{in-range, among}
 use Rattle.solver.proofs.NextLaws.{none-next}
 use Rattle.solver.proofs.Working.{solved-outcome, spent-outcome, split-outcome, children-done, children-skip, children-next, children-stop}
@@ -135,9 +136,9 @@ module _ {bs : List ℕ} {tab : Table} {b : Branch} {r : Found} {es : List ℕ} 
     left-number = left-count (constants bs tab) (held b) (s .sound .good .falls) es (r .constraint) (s .unpacked .handled) (r .rule) (r .root .0) (ruled s) word small left
         ∙ ap length (children-slots (constants bs tab) (held b) this (r .rule) (r .root .0) (ruled s))
 
-    pub splitting : (c : Counts) → Splits bs tab (record { branch = b; found = r; left = word; counts = c })
-    splitting c = record {
-      sound = s .sound;
+    pub splitting : (run : Run) → Ready bs tab b (run .wake) (run .ripe) → Splits bs tab b (record { found = r; left = word; run = run })
+    splitting run y = record {
+      ready = y;
       settled = s .settled refl;
       some-rule = s .some-rule;
       first-is = s .first-is;
@@ -146,10 +147,10 @@ module _ {bs : List ℕ} {tab : Table} {b : Branch} {r : Found} {es : List ℕ} 
     }
 
 -- and back
-pub split-taking : {bs : List ℕ} {tab : Table} {s : Split} → Opened bs tab → Splits bs tab s → {es : List ℕ} → Unpacked bs (s .found .number) es (s .found .constraint) → Taking bs tab true (s .branch) (s .found) (s .found .root .0) es
-split-taking o w u = record { opened = o; sound = w .sound; settled = λ _. w .settled; some-rule = w .some-rule; first-is = w .first-is; located = w .located; unpacked = u }
+pub split-taking : {bs : List ℕ} {tab : Table} {b : Branch} {s : Split} → Opened bs tab → Splits bs tab b s → {es : List ℕ} → Unpacked bs (s .found .number) es (s .found .constraint) → Taking bs tab true b (s .found) (s .found .root .0) es
+split-taking o w u = record { opened = o; sound = w .ready .sound; settled = λ _. w .settled; some-rule = w .some-rule; first-is = w .first-is; located = w .located; unpacked = u }
 
-pub split-decodes : {bs : List ℕ} {tab : Table} {s : Split} → Splits bs tab s → constraintOf bs (s .found .number) ≡ decoded (listOf (constraintOf bs (s .found .number))) (s .found .constraint)
+pub split-decodes : {bs : List ℕ} {tab : Table} {b : Branch} {s : Split} → Splits bs tab b s → constraintOf bs (s .found .number) ≡ decoded (listOf (constraintOf bs (s .found .number))) (s .found .constraint)
 unfolding constraintOf
 split-decodes {s = s} w = rw (w .located .opened) (own-list (map term (w .located .entries)) (s .found .constraint))
 
@@ -209,21 +210,21 @@ module _ {bs : List ℕ} {tab : Table} {budget : ℕ} {b : Branch} {c : Counts} 
 
 -- ---- the children of a split
 
--- what the loop keeps at child k, from counts c and buffers F, T to where it is now
-pub record Worked (bs : List ℕ) (tab : Table) (budget : ℕ) (b : Branch) (r : Found) (es : List ℕ) (c : Counts) (F T : List ℕ) (k word : ℕ) (d : Counts) (G U : List ℕ) : Type 0 where
-  pub leads : (t : State) → ChildrenOutcome bs tab budget b (decoded (map term es) (r .constraint)) (r .rule) (r .root .0) k (state d G U) t → SplitOutcome bs tab budget b r (state c F T) t
+-- what the loop keeps at child k of rule j of constraint i at root p, from counts c and buffers F, T to where it is now
+pub record Worked (bs : List ℕ) (tab : Table) (budget : ℕ) (b : Branch) (i j p : ℕ) (l : Coded) (es : List ℕ) (c : Counts) (F T : List ℕ) (k word : ℕ) (d : Counts) (G U : List ℕ) : Type 0 where
+  pub leads : (t : State) → ChildrenOutcome bs tab budget b (decoded (map term es) l) j p k (state d G U) t → ChildrenOutcome bs tab budget b (getD (constraints bs tab) i noConstraint) j p 0 (state c F T) t
   pub begun : Begun (tab .terms) budget (state d G U)
-  pub left : Left (constants bs tab) (held b) (decoded (map term es) (r .constraint)) es (r .rule) (r .root .0) k word
+  pub left : Left (constants bs tab) (held b) (decoded (map term es) l) es j p k word
 
 module _ {bs : List ℕ} {tab : Table} {b : Branch} {r : Found} {es : List ℕ} {budget : ℕ} {c : Counts} {F T : List ℕ} (s : Taking bs tab true b r (r .root .0) es) where
-  pub worked-begin : {word : ℕ} → Left (constants bs tab) (held b) (decoded (map term es) (r .constraint)) es (r .rule) (r .root .0) 0 word → Begun (tab .terms) budget (state c F T) → Worked bs tab budget b r es c F T 0 word c F T
+  pub worked-begin : {word : ℕ} → Left (constants bs tab) (held b) (decoded (map term es) (r .constraint)) es (r .rule) (r .root .0) 0 word → Begun (tab .terms) budget (state c F T) → Worked bs tab budget b (r .number) (r .rule) (r .root .0) (r .constraint) es c F T 0 word c F T
   worked-begin L g = record {
     leads = λ t q. subst (λ (x : Constraint). ChildrenOutcome bs tab budget b x (r .rule) (r .root .0) 0 (state c F T) t) (sym (here-is s)) q;
     begun = g;
     left = L;
   }
 
-  module _ {k word : ℕ} {d : Counts} {G U : List ℕ} (v : Worked bs tab budget b r es c F T k word d G U) where
+  module _ {k word : ℕ} {d : Counts} {G U : List ℕ} (v : Worked bs tab budget b (r .number) (r .rule) (r .root .0) (r .constraint) es c F T k word d G U) where
     pub worked-done : slotsOf (decoded (map term es) (r .constraint)) (r .rule) ≤ k → SplitOutcome bs tab budget b r (state c F T) (state d G U)
     worked-done h = v .leads (state d G U) (children-done bs tab budget b (decoded (map term es) (r .constraint)) (r .rule) (r .root .0) k (state d G U) h)
 
@@ -234,7 +235,7 @@ module _ {bs : List ℕ} {tab : Table} {b : Branch} {r : Found} {es : List ℕ} 
       after-turn : Left (constants bs tab) (held b) (decoded (map term es) (r .constraint)) es (r .rule) (r .root .0) (k + 1) (t .left)
       after-turn = u .leaves (constants bs tab) (held b) refl (v .left)
 
-      pub worked-skip : t .taken ≡ false → Worked bs tab budget b r es c F T (k + 1) (t .left) d G U
+      pub worked-skip : t .taken ≡ false → Worked bs tab budget b (r .number) (r .rule) (r .root .0) (r .constraint) es c F T (k + 1) (t .left) d G U
       worked-skip e = record {
         leads = λ x y. v .leads x (children-skip bs tab budget b (decoded (map term es) (r .constraint)) (r .rule) (r .root .0) k (state d G U) lt
             (refusing (childOf (constants bs tab) (held b) (decoded (map term es) (r .constraint)) (r .rule) (r .root .0) k) (performed b (t .act)) asserts (left-closed u (constants bs tab) b refl (s .sound .good) (s .sound .rowed .fixed) (v .left) e)) x (rw (add-one k) at y));
@@ -250,7 +251,7 @@ module _ {bs : List ℕ} {tab : Table} {b : Branch} {r : Found} {es : List ℕ} 
         opens = ap (λ (x : Asserted). x .conflict) p ∙ taken-open u (constants bs tab) b refl (s .sound .good) (s .sound .rowed .fixed) (v .left) e
 
         module _ (x : Counts) (H W : List ℕ) (out : Outcome bs tab budget (a .branch) (state d G U) (state x H W)) where
-          pub worked-next : x .stop ≡ 0 → Worked bs tab budget b r es c F T (k + 1) (t .left) x H W
+          pub worked-next : x .stop ≡ 0 → Worked bs tab budget b (r .number) (r .rule) (r .root .0) (r .constraint) es c F T (k + 1) (t .left) x H W
           worked-next z = record {
             leads = λ y w. v .leads y (children-next bs tab budget b (decoded (map term es) (r .constraint)) (r .rule) (r .root .0) k (state d G U) (a .branch) lt (given s made opens) (child-less s made opens) (state x H W) out y (rw (add-one k) at w));
             begun = record {

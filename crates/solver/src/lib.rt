@@ -249,6 +249,7 @@ fn children<'a>(
 {
     let found = split.found;
     let run = split.run;
+    let totals = run.totals;
     let rule = found.rule;
     let l = found.constraint;
     let h = found.root;
@@ -266,7 +267,7 @@ fn children<'a>(
             let then = next.branch;
             let more = wakes(words, act);
             let after = Run {
-                totals: run.totals,
+                totals: totals,
                 budget: run.budget,
                 counts: counts,
                 wake: run.wake | more,

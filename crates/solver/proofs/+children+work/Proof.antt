@@ -13,7 +13,8 @@ use Rattle.problem.specs.Table.{tableBy}
 use Rattle.constraints.proofs.Decoding.{two-operands}
 use Rattle.solver.specs.Outcomes.{remaining}
 use Rattle.solver.proofs.Opening.{terms-few, stands, lent, shows}
-use Rattle.solver.proofs.Taking.{taking, none-found, is-placed, child-sound, child-less}
+use Rattle.solver.proofs.Waking.{narrowed-splits, widened}
+use Rattle.solver.proofs.Taking.{taking, none-found, is-placed, low-act, child-sound, child-less}
 use Rattle.solver.proofs.Workers.{same-room, rooted, decodes, relisted, free, left-number, splitting, split-taking, split-decodes, works-form, works-spent, works-split, split-begun, Worked, worked-begin, worked-done, worked-skip, made, opens, worked-next, worked-stop}
 use Rattle.solver.proofs.children.Reads as children
 use Rattle.solver.proofs.children.Kinds as children-kinds
@@ -31,14 +32,15 @@ use Rattle.step.proofs.kept.Reads as kept-reads
 use Rattle.step.proofs.number.Reads as number-reads
 use Rattle.step.proofs.perform.Reads as perform-reads
 use Rattle.step.proofs.slots.Reads as slots-reads
+use Rattle.solver.proofs.wakes.Reads as wakes-reads
 use Rattle.solver.proofs.+children+work.{statement}
 use Rattle.solver.proofs.+children+work.Tie.{close}
 
 abbrev μ-children : Measures 3 children-kinds.ps ℕ
-μ-children κs a = remaining (a .0 .now) (tableBy (a .1 .1 .0 .totals) (a .1 .1 .1 .0 .now) (a .1 .1 .1 .1 .0 .now)) (a .1 .1 .1 .1 .1 .1 .0 .branch) * 2
+μ-children κs a = remaining (a .0 .now) (tableBy (a .1 .1 .1 .1 .1 .1 .0 .run .totals) (a .1 .1 .0 .now) (a .1 .1 .1 .0 .now)) (a .1 .1 .1 .1 .1 .0) * 2
 
 abbrev μ-work : Measures 3 work-kinds.ps ℕ
-μ-work κs a = remaining (a .0 .now) (tableBy (a .1 .1 .0 .totals) (a .1 .1 .1 .0 .now) (a .1 .1 .1 .1 .0 .now)) (a .1 .1 .1 .1 .1 .1 .0 .branch) * 2 + 1
+μ-work κs a = remaining (a .0 .now) (tableBy (a .1 .1 .1 .1 .1 .1 .0 .totals) (a .1 .1 .0 .now) (a .1 .1 .1 .0 .now)) (a .1 .1 .1 .1 .1 .0) * 2 + 1
 
 abbrev children-at : ℕ → In 3 children-kinds.ps
 children-at t = and 3 children-kinds.ps (is 3 children-kinds.ps μ-children t) children.Pre
@@ -53,16 +55,16 @@ abbrev work-below : ℕ → In 3 work-kinds.ps
 work-below t = and 3 work-kinds.ps (falls 3 work-kinds.ps _<_ μ-work t) work.Pre
 
 abbrev children-Inv-loop : children-lts.InvT-loop
-children-Inv-loop problem numbers limits offsets witnesses listed forms₀ trace₀ b rule l h n entries count left₀ counts₀ k₀ forms trace left counts k =
-    Worked problem (tableBy (limits .totals) offsets witnesses) (limits .budget) b (record { number = n; rule = rule; root = h; constraint = l }) entries counts₀ forms₀ trace₀ k left counts forms trace × (k ≤ count) × (length forms ≡ length forms₀) × (length trace ≡ length trace₀)
+children-Inv-loop problem numbers offsets witnesses words forms₀ trace₀ b run totals rule l h n entries count left₀ counts₀ k₀ forms trace left counts k =
+    Worked problem (tableBy (run .totals) offsets witnesses) (run .budget) b n rule (h .0) l entries counts₀ forms₀ trace₀ k left counts forms trace × (k ≤ count) × (length forms ≡ length forms₀) × (length trace ≡ length trace₀)
 
 abbrev children-μ-loop : children-lts.MeasureT-loop
-children-μ-loop problem numbers limits offsets witnesses listed forms₀ trace₀ b rule l h n entries count left₀ counts₀ k₀ forms trace left counts k =
+children-μ-loop problem numbers offsets witnesses words forms₀ trace₀ b run totals rule l h n entries count left₀ counts₀ k₀ forms trace left counts k =
     count - k
 
 abbrev calls-children : ℕ → children-lts.Claims
 calls-children t =
-    (list-at-reads.Asked, list-at-reads.Learnt, slots-reads.Asked, slots-reads.Learnt, child-at-reads.Asked, child-at-reads.Learnt, perform-reads.Asked, perform-reads.Learnt, work-below t, work.Post)
+    (list-at-reads.Asked, list-at-reads.Learnt, slots-reads.Asked, slots-reads.Learnt, child-at-reads.Asked, child-at-reads.Learnt, perform-reads.Asked, perform-reads.Learnt, wakes-reads.Asked, wakes-reads.Learnt, work-below t, work.Post)
 
 abbrev calls-work : ℕ → work-lts.Claims
 calls-work t =
@@ -71,7 +73,7 @@ calls-work t =
 -- ---- the children's places: the start before the entries were listed; the listing, the slots and the loop's turn before a child
 
 abbrev start : (t : ℕ) → children-lts.After-list-at (calls-children t) (children-at t) children.Post children-Inv-loop children-μ-loop → children-lts.Start (calls-children t) (children-at t) children.Post children-Inv-loop children-μ-loop
-start t c = c .before .before .before .before .before .before .before .before .before .before .before .before .before
+start t c = c .before .before .before .before .before .before .before .before .before .before .before .before .before .before
 
 abbrev listed : (t : ℕ) → children-lts.After-child-at (calls-children t) (children-at t) children.Post children-Inv-loop children-μ-loop → children-lts.After-list-at (calls-children t) (children-at t) children.Post children-Inv-loop children-μ-loop
 listed t c = c .before .before .before .before .before .before .before .before
@@ -86,13 +88,13 @@ children-mul-list-at : (t : ℕ) → children-lts.Need-mul-list-at (calls-childr
 children-mul-list-at t c = search needs
 
 children-shared-slice-read-list-at : (t : ℕ) → children-lts.Need-shared-slice-read-list-at (calls-children t) (children-at t) children.Post children-Inv-loop children-μ-loop
-children-shared-slice-read-list-at t c = let q = c .before .before .before .before .before .before .before .before .before .before .before .before .pre .1 in omega (arith, q .0 .tabled .sized, stands _ _ (q .0 .tabled .opened) _ (q .1 .located .within .in-problem) .0)
+children-shared-slice-read-list-at t c = let q = c .before .before .before .before .before .before .before .before .before .before .before .before .before .pre .1 in omega (arith, q .0 .tabled .sized, stands _ _ (q .0 .tabled .opened) _ (q .1 .located .within .in-problem) .0)
 
 children-cast-list-at : (t : ℕ) → children-lts.Need-cast-list-at (calls-children t) (children-at t) children.Post children-Inv-loop children-μ-loop
-children-cast-list-at t c = let q = c .before .before .before .before .before .before .before .before .before .before .before .before .pre .1 in omega (arith, two-operands _ _ _ (stands _ _ (q .0 .tabled .opened) _ (q .1 .located .within .in-problem) .1))
+children-cast-list-at t c = let q = c .before .before .before .before .before .before .before .before .before .before .before .before .before .pre .1 in omega (arith, two-operands _ _ _ (stands _ _ (q .0 .tabled .opened) _ (q .1 .located .within .in-problem) .1))
 
 children-list-at-requires : (t : ℕ) → children-lts.Need-list-at-requires (calls-children t) (children-at t) children.Post children-Inv-loop children-μ-loop
-children-list-at-requires t c κs = let q = c .before .before .before .before .before .before .before .before .before .before .before .before .pre .1 in (stands _ _ (q .0 .tabled .opened) _ (q .1 .located .within .in-problem) .1, q .0 .numbers-are, split-decodes (q .1))
+children-list-at-requires t c κs = let q = c .before .before .before .before .before .before .before .before .before .before .before .before .before .pre .1 in (stands _ _ (q .0 .tabled .opened) _ (q .1 .located .within .in-problem) .1, q .0 .numbers-are, split-decodes (q .1))
 
 children-slots-requires : (t : ℕ) → children-lts.Need-slots-requires (calls-children t) (children-at t) children.Post children-Inv-loop children-μ-loop
 children-slots-requires t c κs = c .list-at .ensures .handled
@@ -108,35 +110,45 @@ children-child-at-requires t c κs =
     let l = c .before .before .before .before .before .before .before in
     let q = start t l .pre .1 in
     let s = split-taking (q .0 .tabled .opened) (q .1) (l .list-at .ensures) in
-    (q .1 .sound .good .sized, q .1 .sound .good .falls, is-placed s, free s, omega (arith, c .before .before .before .loop-test .taken, c .before .before .before .before .before .before .slots .ensures))
+    (q .1 .ready .sound .good .sized, q .1 .ready .sound .good .falls, is-placed s, free s, omega (arith, c .before .before .before .loop-test .taken, c .before .before .before .before .before .before .slots .ensures))
 
 children-perform-requires : (t : ℕ) → children-lts.Need-perform-requires (calls-children t) (children-at t) children.Post children-Inv-loop children-μ-loop
-children-perform-requires t c κs = c .before .child-at .ensures .rooted
+children-perform-requires t c κs = c .before .child-at .ensures .0 .rooted
+
+children-wakes-requires : (t : ℕ) → children-lts.Need-wakes-requires (calls-children t) (children-at t) children.Post children-Inv-loop children-μ-loop
+children-wakes-requires t c κs = start t (c .before .before .before .before .before .before .before .before .before .before .before) .pre .1 .0 .words-are .long
 
 children-work-requires : (t : ℕ) → children-lts.Need-work-requires (calls-children t) (children-at t) children.Post children-Inv-loop children-μ-loop
 children-work-requires t c κs =
-    let a = c .before .before .before .before .before in
+    let a = c .before .before .before .before .before .before .before .before in
     let l = listed t a in
     let q = start t l .pre .1 in
     let s = split-taking (q .0 .tabled .opened) (q .1) (l .list-at .ensures) in
     let v = turn t a .loop .inv .0 in
-    let m = made s v (omega (arith, a .before .before .before .before .loop-test .taken, a .before .before .before .before .before .before .before .slots .ensures)) (a .child-at .ensures) (c .before .before .before .before .if1 .taken) (c .before .before .before .perform .ensures) in
-    let x = opens s v (omega (arith, a .before .before .before .before .loop-test .taken, a .before .before .before .before .before .before .before .slots .ensures)) (a .child-at .ensures) (c .before .before .before .before .if1 .taken) (c .before .before .before .perform .ensures) in
-    (omega (arith, child-less s m x, start t l .pre .0), (q .0, child-sound s m x, v .begun))
+    let m = made s v (omega (arith, a .before .before .before .before .loop-test .taken, a .before .before .before .before .before .before .before .slots .ensures)) (a .child-at .ensures .0) (c .before .before .before .before .before .before .before .if1 .taken) (c .before .before .before .before .before .before .perform .ensures) in
+    let x = opens s v (omega (arith, a .before .before .before .before .loop-test .taken, a .before .before .before .before .before .before .before .slots .ensures)) (a .child-at .ensures .0) (c .before .before .before .before .before .before .before .if1 .taken) (c .before .before .before .before .before .before .perform .ensures) in
+    (
+      omega (arith, child-less s m x, start t l .pre .0),
+      (
+        q .0,
+        widened (q .0) (q .1 .ready) (a .child-at .result .act) _ (a .child-at .ensures .0 .rooted) (low-act s (a .child-at .result .act) (a .child-at .ensures .1)) (c .before .before .before .before .wakes .ensures) (c .before .before .before .before .before .before .perform .ensures) (child-sound s m x),
+        v .begun,
+      ),
+    )
 
 children-same-length : (t : ℕ) → children-lts.Need-same-length (calls-children t) (children-at t) children.Post children-Inv-loop children-μ-loop
-children-same-length t c = c .before .before .before .before .before .forms .given ∙ turn t (c .before .before .before .before .before .before .before .before .before .before .before .before) .loop .inv .2
+children-same-length t c = c .before .before .before .before .before .forms .given ∙ turn t (c .before .before .before .before .before .before .before .before .before .before .before .before .before .before .before) .loop .inv .2
 
 children-same-length-2 : (t : ℕ) → children-lts.Need-same-length-2 (calls-children t) (children-at t) children.Post children-Inv-loop children-μ-loop
-children-same-length-2 t c = c .before .before .before .trace .given ∙ turn t (c .before .before .before .before .before .before .before .before .before .before .before .before) .loop .inv .3
+children-same-length-2 t c = c .before .before .before .trace .given ∙ turn t (c .before .before .before .before .before .before .before .before .before .before .before .before .before .before .before) .loop .inv .3
 
 children-returns : (t : ℕ) → children-lts.Need-returns (calls-children t) (children-at t) children.Post children-Inv-loop children-μ-loop
 children-returns t c =
-    let a = c .before .before .before .before .before .before .before .before .before .before .before .before in
+    let a = c .before .before .before .before .before .before .before .before .before .before .before .before .before .before .before in
     let l = listed t a in
     let q = start t l .pre .1 in
     let s = split-taking (q .0 .tabled .opened) (q .1) (l .list-at .ensures) in
-    worked-stop s (turn t a .loop .inv .0) (omega (arith, a .before .before .before .before .loop-test .taken, a .before .before .before .before .before .before .before .slots .ensures)) (a .child-at .ensures) (c .before .before .before .before .before .before .before .before .before .before .before .if1 .taken) (c .before .before .before .before .before .before .before .before .before .before .perform .ensures) _ _ _ (c .before .before .before .before .before .before .work .ensures) (c .if2 .taken)
+    worked-stop s (turn t a .loop .inv .0) (omega (arith, a .before .before .before .before .loop-test .taken, a .before .before .before .before .before .before .before .slots .ensures)) (a .child-at .ensures .0) (c .before .before .before .before .before .before .before .before .before .before .before .before .before .before .if1 .taken) (c .before .before .before .before .before .before .before .before .before .before .before .before .before .perform .ensures) _ _ _ (c .before .before .before .before .before .before .work .ensures) (c .if2 .taken)
 
 children-add-k : (t : ℕ) → children-lts.Need-add-k (calls-children t) (children-at t) children.Post children-Inv-loop children-μ-loop
 children-add-k t c = search needs
@@ -153,13 +165,13 @@ children-loop-again t c =
     let v = turn t a .loop .inv in
     ⊎-elim
     (λ w. (
-      rw (w .12, w .13, w .14) (worked-next s (v .0) (omega (arith, a .before .before .before .before .loop-test .taken, a .before .before .before .before .before .before .before .slots .ensures)) (a .child-at .ensures) (w .0 .taken) (w .1 .ensures) _ _ _ (w .5 .ensures) (w .11 .left)),
+      rw (w .15, w .16, w .17) (worked-next s (v .0) (omega (arith, a .before .before .before .before .loop-test .taken, a .before .before .before .before .before .before .before .slots .ensures)) (a .child-at .ensures .0) (w .0 .taken) (w .1 .ensures) _ _ _ (w .8 .ensures) (w .14 .left)),
       omega (arith, a .before .before .before .before .loop-test .taken),
-      ap length (w .12) ∙ w .6 .given ∙ v .2,
-      ap length (w .13) ∙ w .8 .given ∙ v .3,
+      ap length (w .15) ∙ w .9 .given ∙ v .2,
+      ap length (w .16) ∙ w .11 .given ∙ v .3,
     ))
     (λ w. (
-      rw (w .1, w .2, w .3) (worked-skip s (v .0) (omega (arith, a .before .before .before .before .loop-test .taken, a .before .before .before .before .before .before .before .slots .ensures)) (a .child-at .ensures) (w .0 .left)),
+      rw (w .1, w .2, w .3) (worked-skip s (v .0) (omega (arith, a .before .before .before .before .loop-test .taken, a .before .before .before .before .before .before .before .slots .ensures)) (a .child-at .ensures .0) (w .0 .left)),
       omega (arith, a .before .before .before .before .loop-test .taken),
       ap length (w .1) ∙ v .2,
       ap length (w .2) ∙ v .3,
@@ -202,7 +214,7 @@ work-returns : (t : ℕ) → work-lts.Need-returns (calls-work t) (work-at t) wo
 work-returns t c = c .before .before .before .before .before .settle .ensures .ended (not-t _ (c .if1 .taken)) _
 
 work-search-requires : (t : ℕ) → work-lts.Need-search-requires (calls-work t) (work-at t) work.Post
-work-search-requires t c κs = (c .before .before .before .before .before .before .before .before .before .before .before .before .before .before .before .before .before .before .before .before .before .pre .1 .0, lent (c .before .before .before .before .before .before .before .before .before .before .before .before .settle .ensures .reached (not-f _ (c .before .before .before .before .before .before .before .if1 .left)) .sound))
+work-search-requires t c κs = let y = c .before .before .before .before .before .before .before .before .before .before .before .before .settle .ensures .ready (not-f _ (c .before .before .before .before .before .before .before .if1 .left)) in (c .before .before .before .before .before .before .before .before .before .before .before .before .before .before .before .before .before .before .before .before .before .pre .1 .0, lent (y .sound), y .ripe-low)
 
 work-list-form-requires : (t : ℕ) → work-lts.Need-list-form-requires (calls-work t) (work-at t) work.Post
 work-list-form-requires t c κs =
@@ -223,7 +235,7 @@ work-returns-2 t c =
     let q = begins t x .pre .1 in
     let z = not-f _ (goes-on t x .if1 .left) in
     let g = inferred t x .settle .ensures .reached z in
-    works-form (q .0 .tabled .opened) (inferred t x .settle .ensures) z _ (none-found (q .0 .tabled .opened) (g .sound) (x .search .ensures _ (shows (g .sound))) (c .before .before .before .before .if2 .taken)) _ _ (c .before .before .list-form .ensures)
+    works-form (q .0 .tabled .opened) (inferred t x .settle .ensures) z _ (none-found (q .0 .tabled .opened) (g .sound) (x .search .ensures _ (shows (g .sound)) (inferred t x .settle .ensures .ready (not-f _ (goes-on t x .if1 .left)) .splits)) (c .before .before .before .before .if2 .taken)) _ _ (c .before .before .list-form .ensures)
 
 work-same-length-4 : (t : ℕ) → work-lts.Need-same-length-4 (calls-work t) (work-at t) work.Post
 work-same-length-4 t c = search needs
@@ -235,7 +247,7 @@ work-returns-3 t c =
     let e = inferred t x .settle .ensures in
     let z = not-f _ (goes-on t x .if1 .left) in
     let g = e .reached z in
-    works-spent (q .0 .tabled .opened) e z _ (taking (q .0 .tabled .opened) (g .sound) (x .search .ensures _ (shows (g .sound))) (λ _. e .none-applies z) (c .before .before .if2 .left)) (c .if3 .taken)
+    works-spent (q .0 .tabled .opened) e z _ (taking (q .0 .tabled .opened) (g .sound) (x .search .ensures _ (shows (g .sound)) (inferred t x .settle .ensures .ready (not-f _ (goes-on t x .if1 .left)) .splits)) (λ _. e .none-applies z) (c .before .before .if2 .left)) (c .if3 .taken)
 
 work-cast-n : (t : ℕ) → work-lts.Need-cast-n (calls-work t) (work-at t) work.Post
 work-cast-n t c = search needs
@@ -248,7 +260,7 @@ work-shared-slice-read-list-at t c =
     let x = c .before .before .before .before .before in
     let q = begins t x .pre .1 in
     let g = inferred t x .settle .ensures .reached (not-f _ (goes-on t x .if1 .left)) in
-    let h = x .search .ensures _ (shows (g .sound)) .there (c .before .before .before .before .if2 .left) in
+    let h = x .search .ensures _ (shows (g .sound)) (inferred t x .settle .ensures .ready (not-f _ (goes-on t x .if1 .left)) .splits) .there (c .before .before .before .before .if2 .left) in
     omega (arith, q .0 .tabled .sized, stands _ _ (q .0 .tabled .opened) _ (h .within .in-problem) .0)
 
 work-cast-list-at : (t : ℕ) → work-lts.Need-cast-list-at (calls-work t) (work-at t) work.Post
@@ -256,7 +268,7 @@ work-cast-list-at t c =
     let x = c .before .before .before .before .before in
     let q = begins t x .pre .1 in
     let g = inferred t x .settle .ensures .reached (not-f _ (goes-on t x .if1 .left)) in
-    let h = x .search .ensures _ (shows (g .sound)) .there (c .before .before .before .before .if2 .left) in
+    let h = x .search .ensures _ (shows (g .sound)) (inferred t x .settle .ensures .ready (not-f _ (goes-on t x .if1 .left)) .splits) .there (c .before .before .before .before .if2 .left) in
     omega (arith, two-operands _ _ _ (stands _ _ (q .0 .tabled .opened) _ (h .within .in-problem) .1))
 
 work-list-at-requires : (t : ℕ) → work-lts.Need-list-at-requires (calls-work t) (work-at t) work.Post
@@ -266,7 +278,7 @@ work-list-at-requires t c κs =
     let e = inferred t x .settle .ensures in
     let z = not-f _ (goes-on t x .if1 .left) in
     let g = e .reached z in
-    let s = taking (q .0 .tabled .opened) (g .sound) (x .search .ensures _ (shows (g .sound))) (λ _. e .none-applies z) (c .before .before .before .before .if2 .left) in
+    let s = taking (q .0 .tabled .opened) (g .sound) (x .search .ensures _ (shows (g .sound)) (inferred t x .settle .ensures .ready (not-f _ (goes-on t x .if1 .left)) .splits)) (λ _. e .none-applies z) (c .before .before .before .before .if2 .left) in
     (stands _ _ (q .0 .tabled .opened) _ (s .located .within .in-problem) .1, q .0 .numbers-are, decodes s)
 
 work-kept-requires : (t : ℕ) → work-lts.Need-kept-requires (calls-work t) (work-at t) work.Post
@@ -276,7 +288,7 @@ work-kept-requires t c κs =
     let e = inferred t x .settle .ensures in
     let z = not-f _ (goes-on t x .if1 .left) in
     let g = e .reached z in
-    let s = relisted (rooted (taking (q .0 .tabled .opened) (g .sound) (x .search .ensures _ (shows (g .sound))) (λ _. e .none-applies z) (c .before .before .before .before .before .before .before .before .before .before .before .before .before .before .if2 .left))) (c .before .before .before .before .before .before .before .before .before .list-at .ensures) in
+    let s = relisted (rooted (taking (q .0 .tabled .opened) (g .sound) (x .search .ensures _ (shows (g .sound)) (inferred t x .settle .ensures .ready (not-f _ (goes-on t x .if1 .left)) .splits)) (λ _. e .none-applies z) (c .before .before .before .before .before .before .before .before .before .before .before .before .before .before .if2 .left))) (c .before .before .before .before .before .before .before .before .before .list-at .ensures) in
     (g .sound .good .sized, g .sound .good .sized-in, g .sound .good .sized-out, g .sound .good .falls, g .sound .rowed .rows, is-placed s, free s)
 
 work-number-requires : (t : ℕ) → work-lts.Need-number-requires (calls-work t) (work-at t) work.Post
@@ -289,8 +301,8 @@ work-note-requires t c κs =
     let g = inferred t x .settle .ensures .reached (not-f _ (goes-on t x .if1 .left)) .going in
     omega (arith, g .within, g .traced, k .before .before .before .before .before .before .before .before .before .before .before .before .before .if3 .left)
 
-work-add-t32 : (t : ℕ) → work-lts.Need-add-t32 (calls-work t) (work-at t) work.Post
-work-add-t32 t c = let x = searched t (c .before .before .before .before .before) in let g = inferred t x .settle .ensures .reached (not-f _ (goes-on t x .if1 .left)) .going in omega (arith, g .within, g .few)
+work-add-t35 : (t : ℕ) → work-lts.Need-add-t35 (calls-work t) (work-at t) work.Post
+work-add-t35 t c = let x = searched t (c .before .before .before .before .before) in let g = inferred t x .settle .ensures .reached (not-f _ (goes-on t x .if1 .left)) .going in omega (arith, g .within, g .few)
 
 work-children-requires : (t : ℕ) → work-lts.Need-children-requires (calls-work t) (work-at t) work.Post
 work-children-requires t c κs =
@@ -300,9 +312,9 @@ work-children-requires t c κs =
     let e = inferred t x .settle .ensures in
     let z = not-f _ (goes-on t x .if1 .left) in
     let g = e .reached z in
-    let s = relisted (rooted (taking (q .0 .tabled .opened) (g .sound) (x .search .ensures _ (shows (g .sound))) (λ _. e .none-applies z) (k .before .before .before .before .before .before .before .before .before .before .before .before .before .before .before .if2 .left))) (k .before .before .before .before .before .before .before .before .before .before .list-at .ensures) in
+    let s = relisted (rooted (taking (q .0 .tabled .opened) (g .sound) (x .search .ensures _ (shows (g .sound)) (inferred t x .settle .ensures .ready (not-f _ (goes-on t x .if1 .left)) .splits)) (λ _. e .none-applies z) (k .before .before .before .before .before .before .before .before .before .before .before .before .before .before .before .if2 .left))) (k .before .before .before .before .before .before .before .before .before .before .list-at .ensures) in
     let L = k .kept .ensures _ (g .sound .good) (g .sound .rowed .fixed) in
-    (omega (arith, g .less, begins t x .pre .0), (q .0, splitting s _ (search needs) L _, split-begun (q .0 .tabled .opened) e z _ s (k .before .before .before .before .before .before .before .before .before .before .before .before .before .if3 .left) _ (c .before .before .before .before .before .number .ensures ∙ left-number s _ (search needs) L) _ (c .before .before .before .before .note .ensures) (q .2 .fine)))
+    (omega (arith, g .less, begins t x .pre .0), (q .0, splitting s _ (search needs) L _ (narrowed-splits (q .0) (e .ready z) (x .search .ensures _ (shows (g .sound)) (e .ready z .splits))), split-begun (q .0 .tabled .opened) e z _ s (k .before .before .before .before .before .before .before .before .before .before .before .before .before .if3 .left) _ (c .before .before .before .before .before .number .ensures ∙ left-number s _ (search needs) L) _ (c .before .before .before .before .note .ensures) (q .2 .fine)))
 
 work-same-length-5 : (t : ℕ) → work-lts.Need-same-length-5 (calls-work t) (work-at t) work.Post
 work-same-length-5 t c = search needs
@@ -318,7 +330,7 @@ work-returns-4 t c =
     let e = inferred t x .settle .ensures in
     let z = not-f _ (goes-on t x .if1 .left) in
     let g = e .reached z in
-    let s = relisted (rooted (taking (q .0 .tabled .opened) (g .sound) (x .search .ensures _ (shows (g .sound))) (λ _. e .none-applies z) (k .before .before .before .before .before .before .before .before .before .before .before .before .before .before .before .if2 .left))) (k .before .before .before .before .before .before .before .before .before .before .list-at .ensures) in
+    let s = relisted (rooted (taking (q .0 .tabled .opened) (g .sound) (x .search .ensures _ (shows (g .sound)) (inferred t x .settle .ensures .ready (not-f _ (goes-on t x .if1 .left)) .splits)) (λ _. e .none-applies z) (k .before .before .before .before .before .before .before .before .before .before .before .before .before .before .before .if2 .left))) (k .before .before .before .before .before .before .before .before .before .before .list-at .ensures) in
     let L = k .kept .ensures _ (g .sound .good) (g .sound .rowed .fixed) in
     works-split (q .0 .tabled .opened) e z _ s (k .before .before .before .before .before .before .before .before .before .before .before .before .before .if3 .left) _ (c .before .before .before .before .before .before .before .before .before .before .number .ensures ∙ left-number s _ (search needs) L) _ (c .before .before .before .before .before .before .before .before .before .note .ensures) _ (c .before .before .before .before .children .ensures)
 
@@ -337,6 +349,7 @@ pub +children+work-spec : {M : Type 1} → statement M
     (children-loop-holds t)
     (children-child-at-requires t)
     (children-perform-requires t)
+    (children-wakes-requires t)
     (children-work-requires t)
     (children-same-length t)
     (children-same-length-2 t)
@@ -368,7 +381,7 @@ pub +children+work-spec : {M : Type 1} → statement M
     (work-kept-requires t)
     (work-number-requires t)
     (work-note-requires t)
-    (work-add-t32 t)
+    (work-add-t35 t)
     (work-children-requires t)
     (work-same-length-5 t)
     (work-same-length-6 t)
