@@ -1,12 +1,14 @@
 -- Which constraints a search looks at. A search narrows the masks to what is left to look at, and an act widens them by what it wakes.
 use mathlib.Core.Path.{_≡_, refl, sym, ap, _∙_, subst}
-use mathlib.Core.Bool.{Bool, true, false, _&&_, _||_, false≢true}
+use mathlib.Core.Bool.{Bool, true, false, _&&_, _||_, true≢false, false≢true}
 use mathlib.Core.List.{List}
-use Prim.Native.Nat.{ℕ, zero, suc, _+_, _<_, _≤_}
+use Prim.Native.Nat.{ℕ, zero, suc, _+_, _-_, _^_, _<_, _≤_}
 use native.Mathlib.Omega.{arith}
 use native.Mathlib.Decide.{ℕ-discrete}
 use lib.ListN.{length, getD}
+use lib.Dec.{ltb}
 use lib.Bits.{bitOr}
+use borrow.Author.Tests.{lt-ltb, ltb-true}
 use Rattle.calculus.specs.Lists.{upFrom, any, bit}
 use Rattle.calculus.specs.Terms.{Term}
 use Rattle.calculus.specs.Meaning.{Constraint}
@@ -15,7 +17,7 @@ use Rattle.problem.specs.declared.Table.{Table}
 use Rattle.problem.specs.declared.Totals.{Totals}
 use Rattle.problem.specs.Table.{Opened, tableBy, constraintOf}
 use Rattle.problem.proofs.Access.{opened-sizes, constraint-count}
-use Rattle.bits.proofs.Bits.{bit-or}
+use Rattle.bits.proofs.Bits.{bit-or, bit-ones}
 use Rattle.branch.specs.declared.Branch.{Branch}
 use Rattle.branch.specs.declared.Asserted.{Asserted}
 use Rattle.branch.specs.Held.{held, Sound}
@@ -94,6 +96,20 @@ module _ {n : ℕ} {ls : List Constraint} {words : List ℕ} (d : Watched n ls w
   act-quiet split mask w s (Note h x y) r u k q = quiet-noted d split mask w s x y (r .0) (root-is _ _ ∙ r .1) (λ m i l e z. k i ∙ some-up (λ (j : ℕ). bit (literals x y) j && bit (getD words (48 + j) 0) i) 0 m 16 (omega arith) (omega arith) (ap (λ (t : Bool). t && bit (getD words (48 + m) 0) i) e ∙ z)) q
   act-quiet split mask w s (Merge lo hi) r u k q = quiet-merged d split mask w s (r .0) u (root-is _ _ ∙ r .2) (root-is _ _ ∙ r .3) (λ i e. k i ∙ e) q
   act-quiet split mask w s Close r u k q = λ i l e. q i l (wider-l mask w i e)
+
+-- ---- at the start: all constraints are in both masks
+
+pub all-ready : {bs : List ℕ} {tab : Table} {b : Branch} {all : ℕ} → Opened bs tab → Sound (constants bs tab) b → all ≡ 2 ^ tab .constraints - 1 → Ready bs tab b all all
+all-ready {bs} {tab} {all = all} o s e = record { sound = s; propagation = λ i l z. absurd (true≢false (sym (there i l) ∙ z)); splits = λ i l z. absurd (true≢false (sym (there i l) ∙ z)); wake-low = low; ripe-low = low }
+  where
+    bits : (i : ℕ) → bit all i ≡ ltb i (tab .constraints)
+    bits i = ap (λ (n : ℕ). bit n i) e ∙ bit-ones (tab .constraints) i
+
+    there : (i : ℕ) → i < length (constraints bs tab) → bit all i ≡ true
+    there i l = bits i ∙ lt-ltb i (tab .constraints) (omega (arith, constraint-count bs tab o))
+
+    low : (i : ℕ) → bit all i ≡ true → i < tab .constraints
+    low i z = ltb-true i (tab .constraints) (sym (bits i) ∙ z)
 
 -- ---- the masks of a branch
 

@@ -229,7 +229,17 @@ fn work<'a>(
         left: left,
         run: next,
     };
-    children(problem, numbers, offsets, witnesses, words, at, split, forms, trace)
+    children(
+        problem,
+        numbers,
+        offsets,
+        witnesses,
+        words,
+        at,
+        split,
+        forms,
+        trace,
+    )
 }
 
 // Works the children of a split in order, until one stops the run.
@@ -273,7 +283,17 @@ fn children<'a>(
                 wake: run.wake | more,
                 ripe: run.ripe | more,
             };
-            counts = work(problem, numbers, offsets, witnesses, words, then, after, forms, trace);
+            counts = work(
+                problem,
+                numbers,
+                offsets,
+                witnesses,
+                words,
+                then,
+                after,
+                forms,
+                trace,
+            );
             if counts.stop != 0 {
                 return counts;
             }
@@ -318,5 +338,15 @@ pub fn solve(
         wake: all,
         ripe: all,
     };
-    work(problem, &numbers, &offsets, &witnesses, &words, b, run, forms, trace)
+    work(
+        problem,
+        &numbers,
+        &offsets,
+        &witnesses,
+        &words,
+        b,
+        run,
+        forms,
+        trace,
+    )
 }

@@ -100,4 +100,4 @@ returns-6 : tie.Need-returns-6 Inv-loop μ-loop
 returns-6 c = let s = c .before .before in others-need (s .pre .0) (s .args .l) (s .pre .1) (c .match .keys5)
 
 pub needed-spec : {M : Type 1} → statement M
-needed-spec = tie.close (tie.spec Inv-loop μ-loop enum-told bit-at-requires enum-known-l shared-slice-read-kind span-of-requires loop-holds premises-requires add-j loop-less loop-again span-of-requires-2 split-of-requires bit-at-requires-2 returns enum-known-l-2 bit-at-requires-3 enum-known-l-3  bit-at-requires-4 returns-2 returns-3 returns-4 returns-5 returns-6)
+needed-spec = tie.close (tie.spec Inv-loop μ-loop enum-told bit-at-requires enum-known-l shared-slice-read-kind span-of-requires loop-holds premises-requires add-j loop-less loop-again span-of-requires-2 split-of-requires bit-at-requires-2 returns enum-known-l-2 bit-at-requires-3 enum-known-l-3 bit-at-requires-4 returns-2 returns-3 returns-4 returns-5 returns-6)

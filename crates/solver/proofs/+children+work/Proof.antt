@@ -126,8 +126,7 @@ children-work-requires t c κs =
     let s = split-taking (q .0 .tabled .opened) (q .1) (l .list-at .ensures) in
     let v = turn t a .loop .inv .0 in
     let m = made s v (omega (arith, a .before .before .before .before .loop-test .taken, a .before .before .before .before .before .before .before .slots .ensures)) (a .child-at .ensures .0) (c .before .before .before .before .before .before .before .if1 .taken) (c .before .before .before .before .before .before .perform .ensures) in
-    let x = opens s v (omega (arith, a .before .before .before .before .loop-test .taken, a .before .before .before .before .before .before .before .slots .ensures)) (a .child-at .ensures .0) (c .before .before .before .before .before .before .before .if1 .taken) (c .before .before .before .before .before .before .perform .ensures) in
-    (
+    let x = opens s v (omega (arith, a .before .before .before .before .loop-test .taken, a .before .before .before .before .before .before .before .slots .ensures)) (a .child-at .ensures .0) (c .before .before .before .before .before .before .before .if1 .taken) (c .before .before .before .before .before .before .perform .ensures) in (
       omega (arith, child-less s m x, start t l .pre .0),
       (
         q .0,

@@ -116,8 +116,7 @@ loop-again c =
     let f = s .search .ensures _ (shows (v .sound)) (turn s .loop .inv .2 .propagation) in
     let k = taking (start s .pre .0 .tabled .opened) (v .sound) f (λ e. absurd (false≢true e)) n in
     let m = inferred k (p .before .act-of .ensures .0 _ _ (is-placed k) (first-there k)) (p .perform .ensures) in
-    let x = c .before .before .before .before .before .before .if3 .left in
-    (
+    let x = c .before .before .before .before .before .before .if3 .left in (
       reached-again v (step-goes k _ _ (v .going) m (omega (arith, v .going .within, p .before .before .before .before .before .before .if2 .left)) x _ (c .before .before .before .before .note2 .ensures)),
       c .before .before .before .trace2 .given ∙ turn s .loop .inv .1,
       widened (start s .pre .0) (narrowed (start s .pre .0) (turn s .loop .inv .2) f) (p .before .act-of .result) _ (p .before .act-of .ensures .0 _ _ (is-placed k) (first-there k) .rooted) (low-act k (p .before .act-of .result) (p .before .act-of .ensures .1 (f .there n .entries))) (c .before .wakes .ensures) (p .perform .ensures) (child-sound k m x),
