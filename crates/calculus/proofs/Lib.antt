@@ -47,7 +47,6 @@ pub mod Models
 pub mod CheckLaws
 pub mod Checking
 pub mod ModelsPass
-pub mod Low
 pub mod Sizes
 pub mod StepBounds
 pub mod ByteLaws

@@ -16,7 +16,7 @@ use Rattle.output.specs.State.{putAt, state, counted, noted}
 use Rattle.output.proofs.Listing.{noted-there}
 use Rattle.output.proofs.Buffers.{put-length}
 use Rattle.solver.specs.declared.Inferred.{Inferred}
-use Rattle.solver.specs.Outcomes.{constants, constraints, remaining, Outcome, Leads, Settled, Ready, Going, Reached, Settles}
+use Rattle.solver.specs.Outcomes.{constants, Outcome, Leads, Settled, Ready, Going, Reached, Settles}
 use Rattle.solver.proofs.Working.{spent-outcome, closed-outcome, step-leads}
 use Rattle.solver.proofs.Taking.{Taking, Made, stepped, child-sound, child-less, closing, going}
 

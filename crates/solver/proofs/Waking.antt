@@ -24,14 +24,14 @@ use Rattle.branch.specs.Held.{held, Sound}
 use Rattle.branch.specs.Rows.{literals}
 use Rattle.branch.proofs.Roots.{root-is}
 use Rattle.constraints.proofs.Decoding.{constraint-in}
-use Rattle.quiet.specs.Quiet.{Quiet, WordsOf}
+use Rattle.quiet.specs.Quiet.{Quiet}
 use Rattle.quiet.proofs.Waking.{Watched, quiet-noted, quiet-merged}
 use Rattle.search.specs.declared.Found.{Found}
 use Rattle.search.specs.First.{Prepared, Finds}
 use Rattle.step.specs.declared.Act.{Act}
 use Rattle.step.specs.declared.Act.the-variants.{Note, Merge, Close}
 use Rattle.step.specs.Acts.{performed, Rooted, Under}
-use Rattle.solver.specs.Outcomes.{constants, constraints, wokenBy, Wakes, Ready}
+use Rattle.solver.specs.Outcomes.{constants, constraints, Wakes, Ready}
 
 -- ---- what is prepared is what is watched
 

@@ -1,7 +1,7 @@
 -- The two workers: what a branch comes to by its propagation and its split, and what the children of a split come to, one after the other.
 use mathlib.Core.Path.{_≡_, refl, sym, ap, _∙_, subst}
 use mathlib.Core.Bool.{Bool, true, false}
-use mathlib.Core.Option.{none, some}
+use mathlib.Core.Option.{none}
 use mathlib.Core.List.{List, [], _∷_, map}
 use Prim.Native.Nat.{ℕ, _+_, _*_, _-_, _^_, _<_, _≤_}
 use native.Mathlib.Omega.{arith}
@@ -20,13 +20,13 @@ use Rattle.problem.specs.declared.Table.{Table}
 use Rattle.problem.specs.Table.{Opened, constraintOf, noConstraint, listed as listOf}
 use Rattle.branch.specs.declared.Branch.{Branch}
 use Rattle.branch.specs.declared.Asserted.{Asserted}
-use Rattle.branch.specs.Held.{held, rootOf, restrict, resultOf}
+use Rattle.branch.specs.Held.{held, restrict, resultOf}
 use Rattle.branch.proofs.Laws.{refusing}
 use Rattle.branch.proofs.Roots.{root-is}
 use Rattle.constraints.specs.declared.Constraint.{Constraint as Coded}
 use Rattle.constraints.specs.declared.Constraint.the-variants.{Member, Nonmember, Same as Equated, Different, Related, Negated, Exactly, Interval}
 use Rattle.constraints.specs.Decoded.{decoded, Unpacked}
-use Rattle.places.specs.Places.{InSpan, splitSpan, entriesOf, moveAt}
+use Rattle.places.specs.Places.{InSpan, splitSpan, entriesOf}
 use Rattle.places.specs.Alternatives.{slotsOf, childOf}
 use Rattle.places.proofs.Slots.{children-slots}
 use Rattle.search.specs.declared.Found.{Found}
@@ -45,7 +45,7 @@ use Rattle.output.proofs.Tallied.{log-shaped}
 use Rattle.solver.specs.declared.Inferred.{Inferred}
 use Rattle.solver.specs.declared.Run.{Run}
 use Rattle.solver.specs.declared.Split.{Split}
-use Rattle.solver.specs.Outcomes.{constants, constraints, placed, shown, remaining, events, Outcome, Leads, childrenFrom, ChildrenOutcome, SplitOutcome, Settled, Ready, Splits, Begun, Settles}
+use Rattle.solver.specs.Outcomes.{constants, constraints, placed, shown, remaining, events, Outcome, Leads, childrenFrom, ChildrenOutcome, SplitOutcome, Ready, Splits, Begun, Settles}
 use Rattle.solver.proofs.Opening.{in-range, among}
 use Rattle.solver.proofs.NextLaws.{none-next}
 use Rattle.solver.proofs.Working.{solved-outcome, spent-outcome, split-outcome, children-done, children-skip, children-next, children-stop}
