@@ -18,10 +18,10 @@ row-of-requires : tie.Need-row-of-requires
 row-of-requires c κs = search needs
 
 bit-at-requires : tie.Need-bit-at-requires
-bit-at-requires c κs = omega (arith, laid-low _ _ _ (start c .args .rule) (low (start c)) _ (c .row-of .ensures) .0)
+bit-at-requires c κs = let l = laid-low _ _ _ (start c .args .rule) (low (start c)) _ (c .row-of .ensures) in omega (arith, l .0, l .1)
 
 bit-at-requires-2 : tie.Need-bit-at-requires-2
-bit-at-requires-2 c κs = let r = c .before in omega (arith, laid-low _ _ _ (start r .args .rule) (low (start r)) _ (r .row-of .ensures) .1)
+bit-at-requires-2 c κs = let r = c .before in let l = laid-low _ _ _ (start r .args .rule) (low (start r)) _ (r .row-of .ensures) in omega (arith, l .0, l .1)
 
 row-of-requires-2 : tie.Need-row-of-requires-2
 row-of-requires-2 c κs = search needs
