@@ -1,7 +1,7 @@
--- What the loops of `search` keep, and how each goes on. Of the branches that the parents and rows show and whose constraints outside the mask are idle: those that are not left are idle, and so are the rules that were passed.
+-- What the loops of `search` keep, and how each goes on. Whatever branch the parents and rows show, the rules that were passed do not apply there. So if the constraints outside the scope are idle, all but those that are left are.
 use mathlib.Core.Path.{_≡_, refl, sym, ap, _∙_, subst}
 use mathlib.Core.Logic.{inl, inr}
-use mathlib.Core.Bool.{Bool, true, false, _&&_, not, and-true}
+use mathlib.Core.Bool.{Bool, true, false, not, and-true}
 use mathlib.Core.Option.{Option·map, some, map-eq-none-iff, map-eq-some-iff, none}
 use mathlib.Core.List.{List, map}
 use Prim.Native.Nat.{ℕ, _+_, _-_, _*_, _^_, _/_, _%_, _<_, _≤_}

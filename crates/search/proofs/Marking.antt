@@ -1,7 +1,7 @@
--- Words by literal. `mark` sets a bit in the words of a mask's literals, lowest first; `woken` gathers those words; `prepare` marks each constraint's bit, so that after constraint i the words say all of the constraints up to it.
-use mathlib.Core.Path.{_≡_, refl, sym, ap, ap₂, _∙_, subst}
+-- The words by literal, in the loops of `mark`, `woken` and `prepare`. The first two take the lowest literal of a mask, so that the others are left to do. The third has the words right for the constraints before i.
+use mathlib.Core.Path.{_≡_, refl, sym, ap, _∙_}
 use mathlib.Core.Logic.{_⊎_, inl, inr}
-use mathlib.Core.Bool.{Bool, true, false, _&&_, _||_, not, and-true, or-false, or-assoc}
+use mathlib.Core.Bool.{Bool, true, false, _&&_, _||_, and-true, or-false, or-assoc}
 use mathlib.Core.List.{List, [], _∷_}
 use Prim.Native.Nat.{ℕ, zero, suc, _+_, _-_, _^_, _<_, _≤_}
 use native.Mathlib.Omega.{arith}

@@ -1,4 +1,4 @@
--- What the rules of a constraint need, as bits of a word. Of a relation's rule these are its first premise and its last; that it has two shows at three sets that differ, by one test over all rows.
+-- What the rules of a constraint need, as bits of a word. A relation's rule needs its first premise and its last. That these are two shows at three sets that differ: one test over all rows.
 use mathlib.Core.Path.{_≡_, refl, sym, ap, _∙_, subst}
 use mathlib.Core.Logic.{_⊎_, inl, inr}
 use mathlib.Core.Bool.{Bool, true, false, _&&_, not, false≢true, or-false}
@@ -17,7 +17,7 @@ use Rattle.calculus.specs.Lists.{imp, all, any, bit}
 use Rattle.calculus.specs.Terms.{Term, SetVar, setVar}
 use Rattle.calculus.specs.Relations.{Rule, Relation, equal, union, disjoint, subset, intersection, unequal, Literal, Operand, operandOf, propagation, rows, negationRow}
 use Rattle.calculus.specs.Relations as R
-use Rattle.calculus.specs.Meaning.{Constraint, member, nonmember, same, different, relation, negation, exactly, interval}
+use Rattle.calculus.specs.Meaning.{Constraint, relation}
 use Rattle.calculus.specs.Invariants.{ConstraintIn}
 use Rattle.calculus.proofs.Bools.{clash, and-l, and-r, or-cases, or-l, or-r, imp-at, not-t}
 use Rattle.bits.proofs.Bits.{bit-or, bit-pow}
@@ -43,47 +43,38 @@ use Rattle.search.specs.Marks.{RuleNeeds, NeedsOf}
 
 -- ---- bits of a word
 
-pub bit-left : (a b k : ℕ) → bit a k ≡ true → bit (bitOr a b) k ≡ true
+bit-left : (a b k : ℕ) → bit a k ≡ true → bit (bitOr a b) k ≡ true
 bit-left a b k e = bit-or a b k ∙ or-l (bit b k) e
 
-pub bit-right : (a b k : ℕ) → bit b k ≡ true → bit (bitOr a b) k ≡ true
+bit-right : (a b k : ℕ) → bit b k ≡ true → bit (bitOr a b) k ≡ true
 bit-right a b k e = bit-or a b k ∙ or-r (bit a k) e
 
-pub bit-own : (k : ℕ) → bit (2 ^ k) k ≡ true
+bit-own : (k : ℕ) → bit (2 ^ k) k ≡ true
 bit-own k = bit-pow k k ∙ eq-eqb k k refl
 
-pub pow-small : (k : ℕ) → k < 17 → 2 ^ k < 2 ^ 17
+pow-small : (k : ℕ) → k < 17 → 2 ^ k < 2 ^ 17
 pow-small k h = pow-lt {j = 17} h
-
--- literal "in A"
-in-set : (A : CodedSet) (k : ℕ) → eqb (A .0) k ≡ true → bit (2 ^ A .0) k ≡ true
-in-set A k e = subst (λ (m : ℕ). bit (2 ^ A .0) m ≡ true) (eqb-true (A .0) k e) (bit-own (A .0))
 
 -- ---- rows
 
--- at most two premises, and two of them differ at three sets that do
-abbrev few : Rule Literal → Bool
-few r = ltb (length (r .premises)) 3
+-- what holds of each row of the tables holds of every rule's
+each-row : (p : Rule Literal → Bool) → all p (rows equal ++ negationRow unequal ∷ rows union ++ rows disjoint ++ rows subset ++ rows intersection) ≡ true → p (propagation 0 [] (R.In R.A)) ≡ true → (j : ℕ) → p (numbered j) ≡ true
+each-row p a e j = go (rows equal ++ negationRow unequal ∷ rows union ++ rows disjoint ++ rows subset ++ rows intersection) a (j - 5)
+  where
+    go : (rs : List (Rule Literal)) → all p rs ≡ true → (i : ℕ) → p (getD rs i (propagation 0 [] (R.In R.A))) ≡ true
+    go [] a i = e
+    go (r ∷ rs) a zero = and-l (p r) (all p rs) a
+    go (r ∷ rs) a (suc i) = go rs (and-r (p r) (all p rs) a) i
+
+-- it has at most two premises, and two of them differ at three sets that do
+few-premises : (j : ℕ) → ltb (length (numbered j .premises)) 3 ≡ true
+few-premises = each-row (λ r. ltb (length (r .premises)) 3) refl refl
 
 abbrev apart : Rule Literal → Bool
 apart r = not (eqb (numberOf (operandOf 0 1 2) (head (r .premises))) (numberOf (operandOf 0 1 2) (last (r .premises))))
 
-abbrev plain : Rule Literal → Bool
-plain r = few r && imp (ltb 1 (length (r .premises))) (apart r)
-
-plain-at : (d : Rule Literal) (rs : List (Rule Literal)) → all plain rs ≡ true → plain d ≡ true → (i : ℕ) → plain (getD rs i d) ≡ true
-plain-at d [] a e i = e
-plain-at d (r ∷ rs) a e zero = and-l (plain r) (all plain rs) a
-plain-at d (r ∷ rs) a e (suc i) = plain-at d rs (and-r (plain r) (all plain rs) a) e i
-
-rows-plain : (j : ℕ) → plain (numbered j) ≡ true
-rows-plain j = plain-at (propagation 0 [] (R.In R.A)) (rows equal ++ negationRow unequal ∷ rows union ++ rows disjoint ++ rows subset ++ rows intersection) refl refl (j - 5)
-
-rows-few : (j : ℕ) → few (numbered j) ≡ true
-rows-few j = and-l (few (numbered j)) (imp (ltb 1 (length (numbered j .premises))) (apart (numbered j))) (rows-plain j)
-
-rows-apart : (j : ℕ) → ltb 1 (length (numbered j .premises)) ≡ true → apart (numbered j) ≡ true
-rows-apart j = imp-at (ltb 1 (length (numbered j .premises))) (apart (numbered j)) (and-r (few (numbered j)) (imp (ltb 1 (length (numbered j .premises))) (apart (numbered j))) (rows-plain j))
+two-apart : (j : ℕ) → ltb 1 (length (numbered j .premises)) ≡ true → apart (numbered j) ≡ true
+two-apart j = imp-at (ltb 1 (length (numbered j .premises))) (apart (numbered j)) (each-row (λ r. imp (ltb 1 (length (r .premises))) (apart r)) refl refl j)
 
 -- what one of at most two has, the first or the last has
 ends : (f : Literal → Bool) (ls : List Literal) → length ls < 3 → any f ls ≡ true → (f (head ls) ≡ true) ⊎ (f (last ls) ≡ true)
@@ -107,7 +98,7 @@ module _ (k : Relation) (A B C j w : ℕ) where
   -- the premises are the first and the last
   by-row : rowOf k j ≡ numbered j → bit w (numberOf s (head firsts)) ≡ true → bit w (numberOf s (last firsts)) ≡ true → (ltb 1 (length firsts) ≡ true → bit w 16 ≡ true) → RuleNeeds this j w
   by-row r x y z = record {
-    needing = λ h e. go h (ends (λ (l : Literal). eqb (numberOf s l) h) firsts (ltb-true (length firsts) 3 (rows-few j)) (subst (λ (t : Rule Literal). any (λ (l : Literal). eqb (numberOf s l) h) (t .premises) ≡ true) r e));
+    needing = λ h e. go h (ends (λ (l : Literal). eqb (numberOf s l) h) firsts (ltb-true (length firsts) 3 (few-premises j)) (subst (λ (t : Rule Literal). any (λ (l : Literal). eqb (numberOf s l) h) (t .premises) ≡ true) r e));
     paired = λ e. z (subst (λ (t : Rule Literal). ltb 1 (length (t .premises)) ≡ true) r e);
   }
     where
@@ -119,7 +110,7 @@ module _ (k : Relation) (A B C j w : ℕ) where
 abbrev pub Premised : (A B C j w : ℕ) → Type 0
 Premised A B C j w = (w < 2 ^ 17) × ((k : Relation) → RuleOf (relation k (setVar A) (setVar B) (setVar C)) j → RuleNeeds (relation k (setVar A) (setVar B) (setVar C)) j w)
 
--- a row laid out has literals
+-- a row laid out has literals, and so has a split
 pub row-low : {A B C : ℕ} (j : ℕ) → (A < 8) × (B < 8) × (C < 8) → {x : Row} → x ≡ laid (operandOf A B C) (numbered j) → LowRow x
 row-low {A} {B} {C} j low p = subst LowRow (sym p) (laid-low A B C low (numbered j))
 
@@ -139,7 +130,7 @@ module _ {A B C : ℕ} (j : ℕ) (low : (A < 8) × (B < 8) × (C < 8)) {x y : Ro
       by-row k A B C j w (row-of k (setVar A) (setVar B) (setVar C) j r .is)
       (subst (λ (t : Row). bit w (t .0 .0) ≡ true) p (f (x .0 .0) (bit-left u v (x .0 .0) (rw m (bit-own (x .0 .0))))))
       (subst (λ (t : Row). bit w (t .1 .0) ≡ true) p (f (x .1 .0) (bit-right u v (x .1 .0) (rw n (bit-own (x .1 .0))))))
-      (λ e. z (subst (λ (t : Row). ¬ (t .0 .0 ≡ t .1 .0)) (sym q) (eqb-false _ _ (not-t _ (rows-apart j e)))))
+      (λ e. z (subst (λ (t : Row). ¬ (t .0 .0 ≡ t .1 .0)) (sym q) (eqb-false _ _ (not-t _ (two-apart j e)))))
 
   pub one-premise : y .0 .0 ≡ y .1 .0 → Premised A B C j both
   one-premise e = (both-small, by-premises both (λ h g. g) (λ z. absurd (z e)))
@@ -147,24 +138,13 @@ module _ {A B C : ℕ} (j : ℕ) (low : (A < 8) × (B < 8) × (C < 8)) {x y : Ro
   pub two-premises : {t : ℕ} → t ≡ 2 ^ 16 → Premised A B C j (bitOr both t)
   two-premises {t} e = (or-lt 17 both t both-small (rw e (omega arith)), by-premises (bitOr both t) (bit-left both t) (λ _. bit-right both t 16 (rw e (bit-own 16))))
 
--- a split
-by-split : (k : Relation) (A B C j w : ℕ) → InSpan (splitSpan (relation k (setVar A) (setVar B) (setVar C))) j → (x : Split) → x ≡ parted (operandOf A B C) (numbered 12) → bit w (x .0 .0) ≡ true → RuleNeeds (relation k (setVar A) (setVar B) (setVar C)) j w
-by-split equal A B C j w i x p u = absurd (omega (arith, i .1))
-by-split union A B C j w i x p u =
-    let e : j ≡ 12 = omega (arith, i .0, i .1) in
-    let v : bit w C ≡ true = subst (λ (t : Split). bit w (t .0 .0) ≡ true) p u in
-    subst (λ (m : ℕ). RuleNeeds (relation union (setVar A) (setVar B) (setVar C)) m w) (sym e) (by-row union A B C 12 w refl v v (λ q. absurd (false≢true q)))
-by-split disjoint A B C j w i x p u = absurd (omega (arith, i .1))
-by-split subset A B C j w i x p u = absurd (omega (arith, i .1))
-by-split intersection A B C j w i x p u = absurd (omega (arith, i .1))
-
--- a propagation rule is not the split
-not-12 : (k : Relation) (A B C : SetVar) → ¬ InSpan (propagationSpan (relation k A B C)) 12
-not-12 equal A B C s = omega (arith, s .1)
-not-12 union A B C s = omega (arith, s .1)
-not-12 disjoint A B C s = omega (arith, s .0)
-not-12 subset A B C s = omega (arith, s .0)
-not-12 intersection A B C s = omega (arith, s .0)
+-- rule 12 is the split, and no propagation rule
+rule-12 : (k : Relation) (A B C : SetVar) (j : ℕ) → (InSpan (propagationSpan (relation k A B C)) j → ¬ (j ≡ 12)) × (InSpan (splitSpan (relation k A B C)) j → j ≡ 12)
+rule-12 equal A B C j = (λ s e. omega (arith, s .0, s .1), λ s. omega (arith, s .0, s .1))
+rule-12 union A B C j = (λ s e. omega (arith, s .0, s .1), λ s. omega (arith, s .0, s .1))
+rule-12 disjoint A B C j = (λ s e. omega (arith, s .0, s .1), λ s. omega (arith, s .0, s .1))
+rule-12 subset A B C j = (λ s e. omega (arith, s .0, s .1), λ s. omega (arith, s .0, s .1))
+rule-12 intersection A B C j = (λ s e. omega (arith, s .0, s .1), λ s. omega (arith, s .0, s .1))
 
 -- ---- rules of a constraint
 
@@ -177,39 +157,50 @@ pub record Before (l : Constraint) (j word : ℕ) : Type 0 where
   pub rules : (m : ℕ) → InSpan (propagationSpan l) m → m < j → RuleNeeds l m word
   pub small : word < 2 ^ 17
 
+-- a list or an interval of set A
+list-needs : {l : Constraint} (A : ℕ) → A < 8 → ((j k : ℕ) → needs l j k ≡ (eqb j 20 && eqb A k)) → ((j : ℕ) → pairs l j ≡ false) → NeedsOf l (2 ^ A)
+list-needs A h f g = record {
+  rules = λ j r. record { needing = λ k z. subst (λ (m : ℕ). bit (2 ^ A) m ≡ true) (eqb-true A k (and-r (eqb j 20) (eqb A k) (sym (f j k) ∙ z))) (bit-own A); paired = λ z. clash z (g j) };
+  small = pow-small A (omega arith);
+}
+
+-- a constraint whose rules need no literal
+nothing-needed : {l : Constraint} → ((j k : ℕ) → needs l j k ≡ false) → ((j : ℕ) → pairs l j ≡ false) → NeedsOf l 0
+nothing-needed f g = record { rules = λ j r. record { needing = λ k z. clash z (f j k); paired = λ z. clash z (g j) }; small = omega arith }
+
 -- constraint i as it is decoded
-module _ {bs : List ℕ} {i at : ℕ} (st : Stands bs i at) (l : Coded) (is : constraintOf bs i ≡ decoded (listed (constraintOf bs i)) l) where
+module _ {bs : List ℕ} {i at : ℕ} (l : Coded) (d : Stands bs i at × (constraintOf bs i ≡ decoded (listed (constraintOf bs i)) l)) where
   abbrev own : Constraint
   own = constraintOf bs i
 
   matched : {m : Coded} → l ≡ m → own ≡ decoded (listed own) m
-  matched e = is ∙ ap (decoded (listed own)) e
+  matched e = d .1 ∙ ap (decoded (listed own)) e
 
   pub range : {m : Coded} → l ≡ m → ConstraintIn 64 8 (decoded (listed own) m)
-  range e = subst (ConstraintIn 64 8) (matched e) (in-range bs i at st)
+  range e = subst (ConstraintIn 64 8) (matched e) (in-range bs i at (d .0))
 
   pub different-needs : {t u : CodedTerm} → l ≡ Different t u → {w : ℕ} → w ≡ 2 ^ 16 → NeedsOf own w
   different-needs e q = rw (matched e, q) (record { rules = λ j r. record { needing = λ k z. absurd (false≢true z); paired = λ z. bit-own 16 }; small = omega arith })
 
   pub exactly-needs : {A : CodedSet} → l ≡ Exactly A → {w : ℕ} → w ≡ 2 ^ A .0 → NeedsOf own w
-  exactly-needs {A} e q = rw (matched e, q) (record { rules = λ j r. record { needing = λ k z. in-set A k (and-r (eqb j 20) (eqb (A .0) k) z); paired = λ z. absurd (false≢true z) }; small = pow-small (A .0) (omega (arith, range e .0)) })
+  exactly-needs {A} e q = rw (matched e, q) (list-needs (A .0) (range e .0) (λ j k. refl) (λ j. refl))
 
   pub interval-needs : {A : CodedSet} {t u : CodedTerm} → l ≡ Interval A t u → {w : ℕ} → w ≡ 2 ^ A .0 → NeedsOf own w
-  interval-needs {A} e q = rw (matched e, q) (record { rules = λ j r. record { needing = λ k z. in-set A k (and-r (eqb j 20) (eqb (A .0) k) z); paired = λ z. absurd (false≢true z) }; small = pow-small (A .0) (omega (arith, range e .0)) })
+  interval-needs {A} e q = rw (matched e, q) (list-needs (A .0) (range e .0) (λ j k. refl) (λ j. refl))
 
   module _ {k : CodedRelation} {A B C : CodedSet} (e : l ≡ Related k A B C) where
     abbrev related : Constraint
     related = relation (relationOf k) (setVar (A .0)) (setVar (B .0)) (setVar (C .0))
 
     spans : (split : Bool) {first end : ℕ} → Spanned split (getD bs at 0) first end → (first ≡ spanOf split related .0) × (end ≡ spanOf split related .1)
-    spans split h = h related (sym (kind-here bs i at st ∙ ap kindOf (matched e)))
+    spans split h = h related (sym (kind-here bs i at (d .0) ∙ ap kindOf (matched e)))
 
     -- what `premises` is asked for
     pub premises-asked : {first end j word : ℕ} → Spanned false (getD bs at 0) first end → Before own j word → j < end → HasRow j A B × (C .0 < 8)
     premises-asked {first} {end} {j} h f b =
         let v : InSpan (propagationSpan related) j = (rw (matched e) at (f .begun), omega (arith, spans false h .1)) in
         let t = row-of (relationOf k) (setVar (A .0)) (setVar (B .0)) (setVar (C .0)) j (inl v) in
-        (record { low = t .low; high = t .high; no-negation = t .no-seven; no-split = λ z. not-12 (relationOf k) (setVar (A .0)) (setVar (B .0)) (setVar (C .0)) (subst (InSpan (propagationSpan related)) z v); first-set = range e .0; second-set = range e .1 }, range e .2)
+        (record { low = t .low; high = t .high; no-negation = t .no-seven; no-split = rule-12 (relationOf k) (setVar (A .0)) (setVar (B .0)) (setVar (C .0)) j .0 v; first-set = range e .0; second-set = range e .1 }, range e .2)
 
     pub needs-start : {first end : ℕ} → Spanned false (getD bs at 0) first end → Before own first 0
     needs-start h = let q = spans false h in rw (matched e) (record { begun = omega (arith, q .0); rules = λ m v g. absurd (omega (arith, q .0, v .0)); small = omega arith })
@@ -240,24 +231,30 @@ module _ {bs : List ℕ} {i at : ℕ} (st : Stands bs i at) (l : Coded) (is : co
       no-split n = let q = spans true g in needs-with word (f .small) (λ x y. y) (λ m v. absurd (omega (arith, q .0, q .1, v .0, v .1)))
 
       pub with-split : {x : Split} → x ≡ parted (operandOf (A .0) (B .0) (C .0)) (numbered 12) → {w : ℕ} → w ≡ 2 ^ x .0 .0 → NeedsOf own (bitOr word w)
-      with-split {x} p {w} q = needs-with (bitOr word w) (or-lt 17 word w (f .small) low) (λ y. bit-left word w y) (λ m v. by-split (relationOf k) (A .0) (B .0) (C .0) m (bitOr word w) v x p (bit-right word w (x .0 .0) (ap (λ (n : ℕ). bit n (x .0 .0)) q ∙ bit-own (x .0 .0))))
+      with-split {x} p {w} q = needs-with (bitOr word w) (or-lt 17 word w (f .small) (rw c (pow-small (C .0) (omega (arith, range e .2))))) (bit-left word w) there
         where
-          low : w < 2 ^ 17
-          low = rw (q, p) (pow-small (C .0) (omega (arith, range e .2)))
+          c : w ≡ 2 ^ C .0
+          c = q ∙ ap (λ (y : Split). 2 ^ y .0 .0) p
+
+          set : bit (bitOr word w) (C .0) ≡ true
+          set = bit-right word w (C .0) (rw c (bit-own (C .0)))
+
+          there : (m : ℕ) → InSpan (splitSpan related) m → RuleNeeds related m (bitOr word w)
+          there m v =
+              let z : m ≡ 12 = rule-12 (relationOf k) (setVar (A .0)) (setVar (B .0)) (setVar (C .0)) m .1 v in
+              let r : rowOf (relationOf k) 12 ≡ numbered 12 = rw z at (row-of (relationOf k) (setVar (A .0)) (setVar (B .0)) (setVar (C .0)) m (inr v) .is) in
+              rw z (by-row (relationOf k) (A .0) (B .0) (C .0) 12 (bitOr word w) r set set (λ y. absurd (false≢true y)))
 
   -- any other constraint has no rule that needs a literal
   pub others-need : OneOf (0 ∷ 1 ∷ 2 ∷ 5 ∷ []) (tagOf the-type l) → NeedsOf own 0
-  others-need o = subst (λ (x : Constraint). NeedsOf x 0) (sym is) (go l o (listed own))
+  others-need o = subst (λ (x : Constraint). NeedsOf x 0) (sym (d .1)) (go l o (listed own))
     where
-      none : {x : Constraint} → ((j k : ℕ) → needs x j k ≡ false) → ((j : ℕ) → pairs x j ≡ false) → NeedsOf x 0
-      none a b = record { rules = λ j r. record { needing = λ k z. clash z (a j k); paired = λ z. clash z (b j) }; small = omega arith }
-
       go : (m : Coded) → OneOf (0 ∷ 1 ∷ 2 ∷ 5 ∷ []) (tagOf the-type m) → (es : List Term) → NeedsOf (decoded es m) 0
-      go (Member t A) o es = none (λ j k. refl) (λ j. refl)
-      go (Nonmember t A) o es = none (λ j k. refl) (λ j. refl)
-      go (Same t u) o es = none (λ j k. refl) (λ j. refl)
+      go (Member t A) o es = nothing-needed (λ j k. refl) (λ j. refl)
+      go (Nonmember t A) o es = nothing-needed (λ j k. refl) (λ j. refl)
+      go (Same t u) o es = nothing-needed (λ j k. refl) (λ j. refl)
       go (Different t u) o es = absurd (miss (0 ∷ 1 ∷ 2 ∷ 5 ∷ []) 3 tt o)
       go (Related k A B C) o es = absurd (miss (0 ∷ 1 ∷ 2 ∷ 5 ∷ []) 4 tt o)
-      go (Negated k A B C w) o es = none (λ j k. refl) (λ j. refl)
+      go (Negated k A B C w) o es = nothing-needed (λ j k. refl) (λ j. refl)
       go (Exactly A) o es = absurd (miss (0 ∷ 1 ∷ 2 ∷ 5 ∷ []) 6 tt o)
       go (Interval A t u) o es = absurd (miss (0 ∷ 1 ∷ 2 ∷ 5 ∷ []) 7 tt o)

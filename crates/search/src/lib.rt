@@ -37,7 +37,7 @@ pub struct Scope {
     pub among: u64,
 }
 
-// What a search answers: the number of a constraint, the rule, the root concerned, and the constraint itself. Rule 0 says that no rule applies. And the constraints, as bits, that were not looked through.
+// What a search answers: the number of a constraint, the rule, the root concerned, the constraint itself, and, as bits, the constraints that are left to look at. Rule 0 says that no rule applies.
 pub struct Found {
     pub number: u8,
     pub rule: u8,
@@ -46,14 +46,14 @@ pub struct Found {
     pub left: u64,
 }
 
-// The literals, as bits, that a propagation rule of sets needs. Bit 16 says that it needs two.
+// The literals, as bits, that a propagation rule of sets a, b and c needs. Bit 16 says that it needs two.
 fn premises(rule: u8, a: SetVar, b: SetVar, c: SetVar) -> u64
     requires { ⌜ HasRow rule a b × (c .0 < 8) ⌝ }
     ensures { λ r. ⌜ (r < 2 ^ 17) × ((k : Relation) → RuleOf (relation k (setVar (a .0)) (setVar (b .0)) (setVar (c .0))) rule → RuleNeeds (relation k (setVar (a .0)) (setVar (b .0)) (setVar (c .0))) rule r) ⌝ }
 {
     let r = row_of(rule, a, b, c);
     let word = bit_at(r.0.0) | bit_at(r.1.0);
-    // Whether it needs two shows at three sets that differ.
+    // Sets may be the same. That a rule needs two literals shows at three that differ.
     let form = row_of(rule, SetVar(0), SetVar(1), SetVar(2));
     if form.0.0 == form.1.0 {
         return word;
@@ -61,7 +61,7 @@ fn premises(rule: u8, a: SetVar, b: SetVar, c: SetVar) -> u64
     word | bit_at(16)
 }
 
-// The literals, as bits, that the rules of constraint i need. Bit 16 says that one of them needs two facts.
+// The literals, as bits, that the rules of constraint i need. Bit 16 says that one of them needs two facts of a class.
 fn needed(problem: &[u8], i: usize, at: usize, l: Constraint) -> u64
     requires { ⌜ Stands (now problem) i at × (constraintOf (now problem) i ≡ decoded (listed (constraintOf (now problem) i)) l) ⌝ }
     ensures { λ r. ⌜ NeedsOf (constraintOf (now (problem .entry)) i) r ⌝ }
@@ -88,7 +88,7 @@ fn needed(problem: &[u8], i: usize, at: usize, l: Constraint) -> u64
     }
 }
 
-// Bit i is set in the words of these literals.
+// Bit i is set in the words of some literals, which stand from word 48 on.
 fn mark(words: &mut [u64; 65], literals: u64, i: u8)
     requires { ⌜ (length (now words) ≡ 65) × (literals < 2 ^ 17) × (i < 64) ⌝ }
     ensures { λ _. ⌜ Marked literals i (now (words .entry)) (now (words .exit)) ⌝ }
@@ -102,7 +102,7 @@ fn mark(words: &mut [u64; 65], literals: u64, i: u8)
     }
 }
 
-// What a search and a step look up: by constraint its entries, by literal the constraints that need it, and last those that a merge can wake, all as bits. The numbers are 0 to 63.
+// What is looked up in a run, as bits: by constraint its entries, by literal the constraints that need it, and last those that a merge can wake. The numbers are 0 to 63.
 pub fn prepare<'a>(
     problem: &'a [u8],
     numbers: &'a [u8],
@@ -142,7 +142,7 @@ pub fn woken(words: &[u64], ins: u8, outs: u8) -> u64
     found
 }
 
-// The first place where a propagation rule applies, or where a split does. Of the constraints that the scope leaves out none has one. The numbers are 0 to 63, and `words` is what `prepare` answers.
+// The first place where a propagation rule applies, or where a split does. No constraint that the scope leaves out has one. The numbers are 0 to 63, and `words` is what `prepare` answers.
 pub fn search<'a>(
     problem: &'a [u8],
     numbers: &'a [u8],

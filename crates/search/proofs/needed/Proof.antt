@@ -21,7 +21,7 @@ abbrev μ-loop : tie.MeasureT-loop
 abbrev start : tie.After-shared-slice-known2 Inv-loop μ-loop → tie.Start Inv-loop μ-loop
 start c = c .before .before .before .before .before
 
--- where its kind is read, from the loop, and from where its split's number is known
+-- where its kind is read, from the loop; and the loop, from where its split is known
 abbrev kind : tie.At-loop Inv-loop μ-loop → tie.After-shared-slice-known2 Inv-loop μ-loop
 kind c = c .before .before
 
@@ -46,10 +46,10 @@ span-of-requires : tie.Need-span-of-requires Inv-loop μ-loop
 span-of-requires c κs = search needs
 
 loop-holds : tie.Need-loop-holds Inv-loop μ-loop
-loop-holds c = let k = c .before in needs-start (start k .pre .0) _ (start k .pre .1) (k .before .before .l .given .1) (c .span-of .ensures)
+loop-holds c = let k = c .before in needs-start _ (start k .pre) (k .before .before .l .given .1) (c .span-of .ensures)
 
 premises-requires : tie.Need-premises-requires Inv-loop μ-loop
-premises-requires c κs = let k = kind (c .before) in premises-asked (start k .pre .0) _ (start k .pre .1) (k .before .before .l .given .1) (c .before .before .span-of .ensures) (c .before .loop .inv) (c .loop-test .taken)
+premises-requires c κs = let k = kind (c .before) in premises-asked _ (start k .pre) (k .before .before .l .given .1) (c .before .before .span-of .ensures) (c .before .loop .inv) (c .loop-test .taken)
 
 add-j : tie.Need-add-j Inv-loop μ-loop
 add-j c = omega arith
@@ -58,7 +58,7 @@ loop-less : tie.Need-loop-less Inv-loop μ-loop
 loop-less c = omega arith
 
 loop-again : tie.Need-loop-again Inv-loop μ-loop
-loop-again c = let k = kind (c .before .before) in needs-next (start k .pre .0) _ (start k .pre .1) (k .before .before .l .given .1) (c .before .before .loop .inv) (c .premises .ensures)
+loop-again c = let k = kind (c .before .before) in needs-next _ (start k .pre) (k .before .before .l .given .1) (c .before .before .loop .inv) (c .premises .ensures)
 
 span-of-requires-2 : tie.Need-span-of-requires-2 Inv-loop μ-loop
 span-of-requires-2 c κs = search needs
@@ -67,37 +67,37 @@ split-of-requires : tie.Need-split-of-requires Inv-loop μ-loop
 split-of-requires c κs = search needs
 
 bit-at-requires-2 : tie.Need-bit-at-requires-2 Inv-loop μ-loop
-bit-at-requires-2 c κs = let k = kind (looped (c .before .before)) in omega (arith, split-low (range (start k .pre .0) _ (start k .pre .1) (k .before .before .l .given .1)) (c .split-of .ensures) .0)
+bit-at-requires-2 c κs = let k = kind (looped (c .before .before)) in omega (arith, split-low (range _ (start k .pre) (k .before .before .l .given .1)) (c .split-of .ensures) .0)
 
 returns : tie.Need-returns Inv-loop μ-loop
-returns c = let s = c .before .before .before in let l = looped s in let k = kind l in with-split (start k .pre .0) _ (start k .pre .1) (k .before .before .l .given .1) (l .before .span-of .ensures) (s .before .before .loop-test .left) (l .loop .inv) (s .before .span-of2 .ensures) (c .before .split-of .ensures) (c .bit-at2 .ensures)
+returns c = let s = c .before .before .before in let l = looped s in let k = kind l in with-split _ (start k .pre) (k .before .before .l .given .1) (l .before .span-of .ensures) (s .before .before .loop-test .left) (l .loop .inv) (s .before .span-of2 .ensures) (c .before .split-of .ensures) (c .bit-at2 .ensures)
 
 enum-known-l-2 : tie.Need-enum-known-l-2 Inv-loop μ-loop
 enum-known-l-2 c = search needs
 
 bit-at-requires-3 : tie.Need-bit-at-requires-3 Inv-loop μ-loop
-bit-at-requires-3 c κs = let s = c .before .before .before .before in omega (arith, range (s .pre .0) _ (s .pre .1) (c .before .l2 .given .1) .0)
+bit-at-requires-3 c κs = omega (arith, range _ (c .before .before .before .before .pre) (c .before .l2 .given .1) .0)
 
 enum-known-l-3 : tie.Need-enum-known-l-3 Inv-loop μ-loop
 enum-known-l-3 c = search needs
 
 bit-at-requires-4 : tie.Need-bit-at-requires-4 Inv-loop μ-loop
-bit-at-requires-4 c κs = let s = c .before .before .before .before in omega (arith, range (s .pre .0) _ (s .pre .1) (c .before .l3 .given .1) .0)
+bit-at-requires-4 c κs = omega (arith, range _ (c .before .before .before .before .pre) (c .before .l3 .given .1) .0)
 
 returns-2 : tie.Need-returns-2 Inv-loop μ-loop
-returns-2 c = let s = c .before .before .before .before in different-needs (s .pre .0) _ (s .pre .1) (c .before .enum-told .given .1) (c .bit-at .ensures)
+returns-2 c = let s = c .before .before .before .before in different-needs _ (s .pre) (c .before .enum-told .given .1) (c .bit-at .ensures)
 
 returns-3 : tie.Need-returns-3 Inv-loop μ-loop
-returns-3 c = let l = looped (c .before) in let k = kind l in no-split (start k .pre .0) _ (start k .pre .1) (k .before .before .l .given .1) (l .before .span-of .ensures) (c .before .before .before .loop-test .left) (l .loop .inv) (c .before .before .span-of2 .ensures) (c .if1 .left)
+returns-3 c = let l = looped (c .before) in let k = kind l in no-split _ (start k .pre) (k .before .before .l .given .1) (l .before .span-of .ensures) (c .before .before .before .loop-test .left) (l .loop .inv) (c .before .before .span-of2 .ensures) (c .if1 .left)
 
 returns-4 : tie.Need-returns-4 Inv-loop μ-loop
-returns-4 c = let s = c .before .before .before .before .before in exactly-needs (s .pre .0) _ (s .pre .1) (c .before .before .l2 .given .1) (c .bit-at3 .ensures)
+returns-4 c = exactly-needs _ (c .before .before .before .before .before .pre) (c .before .before .l2 .given .1) (c .bit-at3 .ensures)
 
 returns-5 : tie.Need-returns-5 Inv-loop μ-loop
-returns-5 c = let s = c .before .before .before .before .before in interval-needs (s .pre .0) _ (s .pre .1) (c .before .before .l3 .given .1) (c .bit-at4 .ensures)
+returns-5 c = interval-needs _ (c .before .before .before .before .before .pre) (c .before .before .l3 .given .1) (c .bit-at4 .ensures)
 
 returns-6 : tie.Need-returns-6 Inv-loop μ-loop
-returns-6 c = let s = c .before .before in others-need (s .pre .0) (s .args .l) (s .pre .1) (c .match .keys5)
+returns-6 c = let s = c .before .before in others-need (s .args .l) (s .pre) (c .match .keys5)
 
 pub needed-spec : {M : Type 1} → statement M
 needed-spec = tie.close (tie.spec Inv-loop μ-loop enum-told bit-at-requires enum-known-l shared-slice-read-kind span-of-requires loop-holds premises-requires add-j loop-less loop-again span-of-requires-2 split-of-requires bit-at-requires-2 returns enum-known-l-2 bit-at-requires-3 enum-known-l-3 bit-at-requires-4 returns-2 returns-3 returns-4 returns-5 returns-6)

@@ -17,10 +17,10 @@ row-of-requires : tie.Need-row-of-requires
 row-of-requires c κs = search needs
 
 bit-at-requires : tie.Need-bit-at-requires
-bit-at-requires c κs = omega (arith, row-low (start c .args .rule) (low (start c)) (c .row-of .ensures) .0)
+bit-at-requires c κs = let l = row-low (start c .args .rule) (low (start c)) (c .row-of .ensures) in omega (arith, l .0, l .1)
 
 bit-at-requires-2 : tie.Need-bit-at-requires-2
-bit-at-requires-2 c κs = let r = c .before in omega (arith, row-low (start r .args .rule) (low (start r)) (r .row-of .ensures) .1)
+bit-at-requires-2 c κs = let r = c .before in let l = row-low (start r .args .rule) (low (start r)) (r .row-of .ensures) in omega (arith, l .0, l .1)
 
 row-of-requires-2 : tie.Need-row-of-requires-2
 row-of-requires-2 c κs = search needs
