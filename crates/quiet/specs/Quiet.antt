@@ -45,7 +45,7 @@ pairs (negation r A B C w) j = false
 pairs (exactly A es) j = false
 pairs (interval A x y) j = false
 
--- What is prepared once a run. By constraint, its entries as bits; by literal, the constraints that need it, as bits; and last, those that a merge can wake.
+-- What is prepared once a run, as bits. By constraint, its entries; by literal, at least the constraints that need it; and last, at least those that a merge can wake.
 pub record WordsOf (ls : List Constraint) (words : List ℕ) : Type 0 where
   pub long : length words ≡ 65
   pub entries : (i : ℕ) → i < length ls → (h : ℕ) → bit (getD words i 0) h ≡ any (λ (e : Term). eqb (e .index) h) (entriesOf (getD ls i noConstraint))

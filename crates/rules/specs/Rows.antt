@@ -22,7 +22,7 @@ numbered j = getD (rows equal ++ negationRow unequal ∷ rows union ++ rows disj
 abbrev pub literalsOf : (j c : ℕ) → List R.Literal
 literalsOf j c = getD (numbered j .alternatives) c []
 
--- how many children a rule has: the splits 7 and 12 two, any other but 20 one
+-- how many children a rule can have: the splits 7 and 12 two, any other but 20 one
 abbrev pub countOf : ℕ → ℕ
 countOf j = cond (eqb j 7) 2 (cond (eqb j 12) 2 1)
 

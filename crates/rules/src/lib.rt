@@ -108,7 +108,7 @@ fn denial_of(a: SetVar, b: SetVar, c: SetVar) -> Denial
     Denial(x, y, y)
 }
 
-// How many children a rule has, any but 20.
+// How many children a rule can have, any but 20.
 pub fn count_of(rule: u8) -> usize
     ensures { λ r. ⌜ r ≡ countOf rule ⌝ }
 {

@@ -102,7 +102,7 @@ fn mark(words: &mut [u64; 65], literals: u64, i: u8)
     }
 }
 
-// What is looked up in a run, as bits: by constraint its entries, by literal the constraints that need it, and last those that a merge can wake. The numbers are 0 to 63.
+// What is looked up in a run, as bits. By constraint its entries; by literal at least the constraints that need it; and last at least those that a merge can wake. The numbers are 0 to 63.
 pub fn prepare<'a>(
     problem: &'a [u8],
     numbers: &'a [u8],
