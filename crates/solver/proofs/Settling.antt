@@ -1,6 +1,6 @@
--- Propagation. One step spends the budget, closes the branch or reaches its child; steps that follow each other reach what the last one does.
+-- Propagation. One step spends the budget, closes the branch or reaches its child. Steps that follow each other reach what the last one does.
 use mathlib.Core.Path.{_≡_, refl, sym, ap, _∙_, subst}
-use mathlib.Core.Bool.{true, false, true≢false}
+use mathlib.Core.Bool.{true, false}
 use mathlib.Core.List.{List, [], _∷_}
 use Prim.Native.Nat.{ℕ, _+_, _*_, _<_, _≤_}
 use native.Mathlib.Omega.{arith}
@@ -9,42 +9,45 @@ use lib.ListN.{length}
 use Rattle.problem.specs.declared.Table.{Table}
 use Rattle.branch.specs.declared.Branch.{Branch}
 use Rattle.branch.specs.declared.Asserted.{Asserted}
-use Rattle.branch.specs.Held.{Sound}
 use Rattle.search.specs.declared.Found.{Found}
 use Rattle.output.specs.declared.Counts.{Counts}
-use Rattle.output.specs.State.{putAt, state, counted, noted}
+use Rattle.output.specs.State.{State, putAt, state, counted, noted}
 use Rattle.output.proofs.Listing.{noted-there}
 use Rattle.output.proofs.Buffers.{put-length}
-use Rattle.solver.specs.declared.Inferred.{Inferred}
-use Rattle.solver.specs.Outcomes.{constants, Outcome, Leads, Settled, Ready, Going, Reached, Settles}
+use Rattle.solver.specs.Outcomes.{remaining, Outcome, Leads}
 use Rattle.solver.proofs.Working.{spent-outcome, closed-outcome, step-leads}
-use Rattle.solver.proofs.Taking.{Taking, Made, stepped, child-sound, child-less, closing, going}
+use Rattle.solver.proofs.Taking.{Taking, Made, stepped, child-less, closing, going}
 
 -- ---- steps that were taken
 
+-- the run goes on, its steps are within the budget, and the trace buffer has room for them all
+pub record Going (budget : ℕ) (c : Counts) (trace : List ℕ) : Type 0 where
+  pub on : c .stop ≡ 0
+  pub within : c .steps ≤ budget
+  pub few : budget ≤ 10000
+  pub traced : 4 * budget ≤ length trace
+
+-- steps lead from a branch, its counts and its trace to others
+pub record Reached (bs : List ℕ) (tab : Table) (budget : ℕ) (b : Branch) (c : Counts) (trace : List ℕ) (at : Branch) (d : Counts) (after : List ℕ) : Type 0 where
+  pub leads : (forms : List ℕ) → Leads bs tab budget b (state c forms trace) at (state d forms after)
+  pub less : remaining bs tab at ≤ remaining bs tab b
+  pub going : Going budget d after
+  pub same : d .forms ≡ c .forms
+
 module _ {bs : List ℕ} {tab : Table} {budget : ℕ} {b : Branch} {c : Counts} {T : List ℕ} where
-  pub reached-start : Sound (constants bs tab) b → Going budget c T → Reached bs tab budget b c T b c T
+  pub reached-start : Going budget c T → Reached bs tab budget b c T b c T
   unfolding Leads
-  reached-start sound g = record { leads = λ F r q. q; less = omega arith; sound = sound; going = g; same = refl }
+  reached-start g = record { leads = λ F r q. q; less = omega arith; going = g; same = refl }
 
   module _ {at : Branch} {d : Counts} {U : List ℕ} (s : Reached bs tab budget b c T at d U) where
     pub reached-again : {next : Branch} {e : Counts} {W : List ℕ} → Reached bs tab budget at d U next e W → Reached bs tab budget b c T next e W
     unfolding Leads
-    reached-again w = record { leads = λ F t x. s .leads F t (w .leads F t x); less = omega (arith, s .less, w .less); sound = w .sound; going = w .going; same = w .same ∙ s .same }
+    reached-again w = record { leads = λ F t x. s .leads F t (w .leads F t x); less = omega (arith, s .less, w .less); going = w .going; same = w .same ∙ s .same }
 
-    -- no further step applies
-    pub settles : (ripe : ℕ) → Settled bs tab at → Ready bs tab at 0 ripe → Settles bs tab budget b c T (record { branch = at; counts = d; ripe = ripe; settled = true }) U
-    settles ripe q y = record { reached = λ _. s; ready = λ _. y; none-applies = λ _. q; ended = λ x. absurd (true≢false x) }
-
-    -- the branch is closed, or the budget spent
-    pub ends : (r : Inferred) → r .settled ≡ false → (W : List ℕ) → ((F : List ℕ) → Outcome bs tab budget at (state d F U) (state (r .counts) F W)) → Settles bs tab budget b c T r W
+    -- what the branch now comes to is what the first does
+    pub reaches : (F : List ℕ) (t : State) → Outcome bs tab budget at (state d F U) t → Outcome bs tab budget b (state c F T) t
     unfolding Leads
-    ends r e W q = record {
-      reached = λ x. absurd (true≢false (sym x ∙ e));
-      ready = λ x. absurd (true≢false (sym x ∙ e));
-      none-applies = λ x. absurd (true≢false (sym x ∙ e));
-      ended = λ _ F. s .leads F (state (r .counts) F W) (q F);
-    }
+    reaches F t q = s .leads F t q
 
 -- ---- one step
 
@@ -69,7 +72,6 @@ module _ {bs : List ℕ} {tab : Table} {budget : ℕ} {b : Branch} {r : Found} {
       leads = λ F. subst (Leads bs tab budget b (state c F T) (t .branch)) (sym (after 1 U F e))
           (step-leads bs tab (s .opened) budget b (s .sound .good) (state c F T) (g .on) (line 1) (t .branch) (going s m x) (child-less s m x));
       less = omega (arith, child-less s m x);
-      sound = child-sound s m x;
       going = record { on = refl; within = omega arith; few = g .few; traced = omega (arith, g .traced, ap length e, put-length T (4 * c .steps) (line 1) (omega (arith, g .traced))) };
       same = refl;
     }

@@ -20,7 +20,7 @@ use Rattle.problem.specs.declared.Table.{Table}
 use Rattle.problem.specs.Table.{Opened, constraintOf, noConstraint, listed as listOf}
 use Rattle.branch.specs.declared.Branch.{Branch}
 use Rattle.branch.specs.declared.Asserted.{Asserted}
-use Rattle.branch.specs.Held.{held, restrict, resultOf}
+use Rattle.branch.specs.Held.{held, restrict, resultOf, Sound}
 use Rattle.branch.proofs.Laws.{refusing}
 use Rattle.branch.proofs.Roots.{root-is}
 use Rattle.constraints.specs.declared.Constraint.{Constraint as Coded}
@@ -42,10 +42,10 @@ use Rattle.output.proofs.Buffers.{put-length}
 use Rattle.output.proofs.Listing.{noted-there}
 use Rattle.output.proofs.Playing.{play-kept}
 use Rattle.output.proofs.Tallied.{log-shaped}
-use Rattle.solver.specs.declared.Inferred.{Inferred}
 use Rattle.solver.specs.declared.Run.{Run}
 use Rattle.solver.specs.declared.Split.{Split}
-use Rattle.solver.specs.Outcomes.{constants, constraints, placed, shown, remaining, events, Outcome, Leads, childrenFrom, ChildrenOutcome, SplitOutcome, Ready, Splits, Begun, Settles}
+use Rattle.solver.specs.Outcomes.{constants, constraints, placed, shown, remaining, events, Outcome, childrenFrom, ChildrenOutcome, SplitOutcome, Settled, Ready, Splits, Begun}
+use Rattle.solver.proofs.Settling.{Reached, reaches}
 use Rattle.solver.proofs.Opening.{in-range, among}
 use Rattle.solver.proofs.NextLaws.{none-next}
 use Rattle.solver.proofs.Working.{solved-outcome, spent-outcome, split-outcome, children-done, children-skip, children-next, children-stop}
@@ -156,36 +156,28 @@ split-decodes {s = s} w = rw (w .located .opened) (own-list (map term (w .locate
 
 -- ---- a branch that propagation has settled
 
-module _ {bs : List ℕ} {tab : Table} {budget : ℕ} {b : Branch} {c : Counts} {T : List ℕ} {r : Inferred} {U : List ℕ} (o : Opened bs tab) (set : Settles bs tab budget b c T r U) (z : r .settled ≡ true) (F : List ℕ) where
-  abbrev at : Branch
-  at = r .branch
+module _ {bs : List ℕ} {tab : Table} {budget : ℕ} {b : Branch} {c : Counts} {T : List ℕ} {at : Branch} {d : Counts} {U : List ℕ} (o : Opened bs tab) (w : Reached bs tab budget b c T at d U) (F : List ℕ) where
+  pub works-form : Sound (constants bs tab) at → Settled bs tab at → firstPlace true (tab .terms) (constraints bs tab) (held at) ≡ none → (e : Counts) (G : List ℕ) → state e G [] ≡ listed (tab .terms) (recordOf (tab .terms) (held at)) (state d F []) → Outcome bs tab budget b (state c F T) (state e G U)
+  works-form sound p q e G x =
+      let n = none-next (tab .terms) (tab .sets) (constants bs tab) (constraints bs tab) (in-range bs tab o) (among bs tab o) (held at) (sound .good .falls) p q in
+      reaches w F (state e G U) (subst (Outcome bs tab budget at (state d F U)) (sym (listed-trace (tab .terms) (recordOf (tab .terms) (held at)) d e F G x U))
+      (solved-outcome bs tab o budget at (sound .good) (state d F U) (w .going .on) n))
 
-  leading : (t : State) → Outcome bs tab budget at (state (r .counts) F U) t → Outcome bs tab budget b (state c F T) t
-  unfolding Leads
-  leading t q = set .reached z .leads F t q
+  module _ {f : Found} {q : ℕ} {es : List ℕ} (s : Taking bs tab true at f q es) where
+    pub works-spent : d .steps ≡ budget → Outcome bs tab budget b (state c F T) (state (counted (d .steps) (d .forms) 1) F U)
+    works-spent e = reaches w F _ (spent-outcome bs tab o budget at (s .sound .good) (state d F U) (w .going .on) _ _ (stepped s) e)
 
-  pub works-form : firstPlace true (tab .terms) (constraints bs tab) (held at) ≡ none → (d : Counts) (G : List ℕ) → state d G [] ≡ listed (tab .terms) (recordOf (tab .terms) (held at)) (state (r .counts) F []) → Outcome bs tab budget b (state c F T) (state d G U)
-  works-form q d G e =
-      let sound = set .reached z .sound in
-      let n = none-next (tab .terms) (tab .sets) (constants bs tab) (constraints bs tab) (in-range bs tab o) (among bs tab o) (held at) (sound .good .falls) (set .none-applies z) q in
-      leading (state d G U) (subst (Outcome bs tab budget at (state (r .counts) F U)) (sym (listed-trace (tab .terms) (recordOf (tab .terms) (held at)) (r .counts) d F G e U))
-      (solved-outcome bs tab o budget at (sound .good) (state (r .counts) F U) (set .reached z .going .on) n))
-
-  module _ {f : Found} {q : ℕ} {es : List ℕ} (s : Taking bs tab true (r .branch) f q es) where
-    pub works-spent : r .counts .steps ≡ budget → Outcome bs tab budget b (state c F T) (state (counted (r .counts .steps) (r .counts .forms) 1) F U)
-    works-spent e = leading _ (spent-outcome bs tab o budget at (s .sound .good) (state (r .counts) F U) (set .reached z .going .on) _ _ (stepped s) e)
-
-  module _ {f : Found} {es : List ℕ} (s : Taking bs tab true (r .branch) f (f .root .0) es) (more : ¬ (r .counts .steps ≡ budget)) (n : ℕ) (ns : n ≡ length (picked (childOf (constants bs tab) (held (r .branch)) (decoded (map term es) (f .constraint)) (f .rule) (f .root .0)) (upFrom 0 (slotsOf (decoded (map term es) (f .constraint)) (f .rule))))) (W : List ℕ) (e : W ≡ putAt U (4 * r .counts .steps) (f .rule ∷ f .number ∷ f .root .0 ∷ n ∷ [])) where
+  module _ {f : Found} {es : List ℕ} (s : Taking bs tab true at f (f .root .0) es) (more : ¬ (d .steps ≡ budget)) (n : ℕ) (ns : n ≡ length (picked (childOf (constants bs tab) (held at) (decoded (map term es) (f .constraint)) (f .rule) (f .root .0)) (upFrom 0 (slotsOf (decoded (map term es) (f .constraint)) (f .rule))))) (W : List ℕ) (e : W ≡ putAt U (4 * d .steps) (f .rule ∷ f .number ∷ f .root .0 ∷ n ∷ [])) where
     -- the record of the split
     abbrev line : List ℕ
     line = f .rule ∷ f .number ∷ f .root .0 ∷ n ∷ []
 
     abbrev noted-counts : Counts
-    noted-counts = counted (r .counts .steps + 1) (r .counts .forms) 0
+    noted-counts = counted (d .steps + 1) (d .forms) 0
 
     -- the state after it is noted
-    after : state noted-counts F W ≡ noted budget line (state (r .counts) F U)
-    after = rw (e, add-one (r .counts .steps)) (sym (noted-there budget line (state (r .counts) F U) (omega (arith, set .reached z .going .within))))
+    after : state noted-counts F W ≡ noted budget line (state d F U)
+    after = rw (e, add-one (d .steps)) (sym (noted-there budget line (state d F U) (omega (arith, w .going .within))))
 
     next-is : next (tab .terms) (constants bs tab) (constraints bs tab) (shown bs tab at) ≡ step line (childrenFrom bs tab at (placed bs tab f) (f .rule) (f .root .0) 0)
     next-is =
@@ -194,16 +186,16 @@ module _ {bs : List ℕ} {tab : Table} {budget : ℕ} {b : Branch} {c : Counts} 
         stepped s ∙ rw (ns, here-is s) (ap (λ (k : ℕ). step (f .rule ∷ f .number ∷ f .root .0 ∷ length (picked (childOf (constants bs tab) (held at) l (f .rule) (f .root .0)) (upFrom 0 (slotsOf l (f .rule)))) ∷ []) (map (restrict (tab .terms)) (picked (childOf (constants bs tab) (held at) l (f .rule) (f .root .0)) (upFrom 0 k)))) y)
 
     pub works-split : (t : State) → SplitOutcome bs tab budget at f (state noted-counts F W) t → Outcome bs tab budget b (state c F T) t
-    works-split t x = leading t (split-outcome bs tab o budget at (s .sound .good) (state (r .counts) F U) (set .reached z .going .on) (placed bs tab f) (f .rule) (f .root .0) line next-is t (subst (λ (y : State). SplitOutcome bs tab budget at f y t) after x))
+    works-split t x = reaches w F t (split-outcome bs tab o budget at (s .sound .good) (state d F U) (w .going .on) (placed bs tab f) (f .rule) (f .root .0) line next-is t (subst (λ (y : State). SplitOutcome bs tab budget at f y t) after x))
 
     pub split-begun : Fine (tab .terms) budget (state c F T) → Begun (tab .terms) budget (state noted-counts F W)
     split-begun g = record {
       on = refl;
       fine = record {
-        within = omega (arith, set .reached z .going .within);
+        within = omega (arith, w .going .within);
         few = g .few;
-        traced = omega (arith, set .reached z .going .traced, ap length e, put-length U (4 * r .counts .steps) line (omega (arith, set .reached z .going .traced, set .reached z .going .within)));
-        written = subst (λ (k : ℕ). 3 * tab .terms * k ≤ length F) (sym (set .reached z .same)) (g .written);
+        traced = omega (arith, w .going .traced, ap length e, put-length U (4 * d .steps) line (omega (arith, w .going .traced, w .going .within)));
+        written = subst (λ (k : ℕ). 3 * tab .terms * k ≤ length F) (sym (w .same)) (g .written);
       };
       no-terms = λ y. absurd (omega (arith, s .located .low));
     }

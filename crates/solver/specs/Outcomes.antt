@@ -26,9 +26,7 @@ use Rattle.step.specs.declared.Act.{Act}
 use Rattle.step.specs.declared.Act.the-variants.{Note, Merge, Close}
 use Rattle.step.specs.Left.{Left}
 use Rattle.quiet.specs.Quiet.{Quiet}
-use Rattle.output.specs.declared.Counts.{Counts}
 use Rattle.output.specs.State.{State, state, play, left, Fine}
-use Rattle.solver.specs.declared.Inferred.{Inferred}
 use Rattle.solver.specs.declared.Split.{Split}
 
 -- constraint i is woken by an act: by a note if it needs a literal of the masks, by a merge if two facts of one class can wake it
@@ -106,33 +104,11 @@ module _ (bs : List ℕ) (tab : Table) where
     pub located : Located true (tab .terms) constraints (held b) (s .found) (s .found .root .0)
     pub left : (es : List ℕ) → Unpacked bs (s .found .number) es (s .found .constraint) → Left constants (held b) (decoded (map term es) (s .found .constraint)) es (s .found .rule) (s .found .root .0) 0 (s .left)
 
--- the run goes on, its steps are within the budget, and the trace buffer has room for them all
-pub record Going (budget : ℕ) (c : Counts) (trace : List ℕ) : Type 0 where
-  pub on : c .stop ≡ 0
-  pub within : c .steps ≤ budget
-  pub few : budget ≤ 10000
-  pub traced : 4 * budget ≤ length trace
-
 -- the run goes on, within its bounds; without terms there is one form at most
 pub record Begun (n budget : ℕ) (s : State) : Type 0 where
   pub on : s .counts .stop ≡ 0
   pub fine : Fine n budget s
   pub no-terms : n ≡ 0 → s .counts .forms ≡ 0
-
--- propagation steps lead from a branch, its counts and its trace to others
-pub record Reached (bs : List ℕ) (tab : Table) (budget : ℕ) (b : Branch) (c : Counts) (trace : List ℕ) (at : Branch) (d : Counts) (after : List ℕ) : Type 0 where
-  pub leads : (forms : List ℕ) → Leads bs tab budget b (state c forms trace) at (state d forms after)
-  pub less : remaining bs tab at ≤ remaining bs tab b
-  pub sound : Sound (constants bs tab) at
-  pub going : Going budget d after
-  pub same : d .forms ≡ c .forms
-
--- propagation steps were taken until none applies (settled), or until the branch closed or the budget was spent
-pub record Settles (bs : List ℕ) (tab : Table) (budget : ℕ) (b : Branch) (c : Counts) (trace : List ℕ) (r : Inferred) (after : List ℕ) : Type 0 where
-  pub reached : r .settled ≡ true → Reached bs tab budget b c trace (r .branch) (r .counts) after
-  pub ready : r .settled ≡ true → Ready bs tab (r .branch) 0 (r .ripe)
-  pub none-applies : r .settled ≡ true → Settled bs tab (r .branch)
-  pub ended : r .settled ≡ false → (forms : List ℕ) → Outcome bs tab budget b (state c forms trace) (state (r .counts) forms after)
 
 -- a run of these bytes, if they are a problem, leaves what the calculus's run does
 abbrev pub Runs : List ℕ → ℕ → List ℕ → List ℕ → State → Type 0

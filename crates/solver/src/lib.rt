@@ -25,7 +25,7 @@ ghost use lib.ListN.{length};
 ghost use Rattle.problem.specs.Table.{Opened, tableBy};
 ghost use Rattle.search.specs.First.{Prepared};
 ghost use Rattle.output.specs.State.{state};
-ghost use Rattle.solver.specs.Outcomes.{Wakes, Outcome, SplitOutcome, Going, Begun, Ready, Settles, Splits, Runs};
+ghost use Rattle.solver.specs.Outcomes.{Wakes, Outcome, SplitOutcome, Begun, Ready, Splits, Runs};
 
 // What a run has besides its lists: the problem's totals, how many steps it may take, what it has counted, and the constraints, as bits, of which a propagation rule may apply, and those of which a split may.
 pub struct Run {
@@ -34,14 +34,6 @@ pub struct Run {
     pub counts: Counts,
     pub wake: u64,
     pub ripe: u64,
-}
-
-// A branch after propagation. It is settled if no propagation rule applies; otherwise it is closed, or the budget is spent.
-pub struct Inferred {
-    pub branch: Branch,
-    pub counts: Counts,
-    pub ripe: u64,
-    pub settled: bool,
 }
 
 // A split that a search found, with the children that are left, as bits, and the run as it is before them.
@@ -63,8 +55,8 @@ fn wakes(words: &[u64], a: Act) -> u64
     }
 }
 
-// Takes propagation steps until none applies, or the branch is closed, or the budget spent.
-fn settle<'a>(
+// Works a branch: propagation until no rule applies; then it is a solved form, or it splits. A conflict closes it.
+fn work<'a>(
     problem: &'a [u8],
     numbers: &'a [u8],
     offsets: &'a [u16],
@@ -72,10 +64,11 @@ fn settle<'a>(
     words: &'a [u64],
     b: Branch,
     run: Run,
+    forms: &mut [u8],
     trace: &mut [u8],
-) -> Inferred
-    requires { ⌜ Prepared (now problem) (now numbers) (run .totals) (now offsets) (now witnesses) (now words) × Ready (now problem) (tableBy (run .totals) (now offsets) (now witnesses)) b (run .wake) (run .ripe) × Going (run .budget) (run .counts) (now trace) ⌝ }
-    ensures { λ r. ⌜ Settles (now (problem .entry)) (tableBy (run .totals) (now (offsets .entry)) (now (witnesses .entry))) (run .budget) b (run .counts) (now (trace .entry)) r (now (trace .exit)) ⌝ }
+) -> Counts
+    requires { ⌜ Prepared (now problem) (now numbers) (run .totals) (now offsets) (now witnesses) (now words) × Ready (now problem) (tableBy (run .totals) (now offsets) (now witnesses)) b (run .wake) (run .ripe) × Begun (run .totals .terms) (run .budget) (state (run .counts) (now forms) (now trace)) ⌝ }
+    ensures { λ r. ⌜ Outcome (now (problem .entry)) (tableBy (run .totals) (now (offsets .entry)) (now (witnesses .entry))) (run .budget) b (state (run .counts) (now (forms .entry)) (now (trace .entry))) (state r (now (forms .exit)) (now (trace .exit))) ⌝ }
 {
     let totals = run.totals;
     let budget = run.budget;
@@ -101,25 +94,15 @@ fn settle<'a>(
         );
         let rule = found.rule;
         if rule == 0 {
-            return Inferred {
-                branch: at,
-                counts: counts,
-                ripe: ripe,
-                settled: true,
-            };
+            break;
         }
         let steps = counts.steps;
-        let forms = counts.forms;
+        let listed = counts.forms;
         if steps == budget {
-            return Inferred {
-                branch: at,
-                counts: Counts {
-                    steps: steps,
-                    forms: forms,
-                    stop: 1,
-                },
-                ripe: ripe,
-                settled: false,
+            return Counts {
+                steps: steps,
+                forms: listed,
+                stop: 1,
             };
         }
         let root = found.root;
@@ -129,50 +112,21 @@ fn settle<'a>(
         at = next.branch;
         counts = Counts {
             steps: steps + 1,
-            forms: forms,
+            forms: listed,
             stop: 0,
         };
         if next.conflict {
             note(trace, steps, rule, found.number, root.0, 0);
-            return Inferred {
-                branch: at,
-                counts: counts,
-                ripe: ripe,
-                settled: false,
-            };
+            return counts;
         }
         note(trace, steps, rule, found.number, root.0, 1);
         let more = wakes(words, act);
         wake = found.left | more;
         ripe = ripe | more;
     }
-}
-
-// Works a branch: propagation first; then it is a solved form, or it splits.
-fn work<'a>(
-    problem: &'a [u8],
-    numbers: &'a [u8],
-    offsets: &'a [u16],
-    witnesses: &'a [u8],
-    words: &'a [u64],
-    b: Branch,
-    run: Run,
-    forms: &mut [u8],
-    trace: &mut [u8],
-) -> Counts
-    requires { ⌜ Prepared (now problem) (now numbers) (run .totals) (now offsets) (now witnesses) (now words) × Ready (now problem) (tableBy (run .totals) (now offsets) (now witnesses)) b (run .wake) (run .ripe) × Begun (run .totals .terms) (run .budget) (state (run .counts) (now forms) (now trace)) ⌝ }
-    ensures { λ r. ⌜ Outcome (now (problem .entry)) (tableBy (run .totals) (now (offsets .entry)) (now (witnesses .entry))) (run .budget) b (state (run .counts) (now (forms .entry)) (now (trace .entry))) (state r (now (forms .exit)) (now (trace .exit))) ⌝ }
-{
-    let inferred = settle(problem, numbers, offsets, witnesses, words, b, run, trace);
-    let counts = inferred.counts;
-    if !inferred.settled {
-        return counts;
-    }
-    let at = inferred.branch;
-    let totals = run.totals;
     let scope = Scope {
         split: true,
-        among: inferred.ripe,
+        among: ripe,
     };
     let found = search(
         problem,
@@ -190,7 +144,7 @@ fn work<'a>(
         return list_form(at, totals.terms, counts, forms);
     }
     let taken = counts.steps;
-    if taken == run.budget {
+    if taken == budget {
         return Counts {
             steps: taken,
             forms: counts.forms,
@@ -215,7 +169,7 @@ fn work<'a>(
     note(trace, taken, rule, found.number, root, number(left));
     let next = Run {
         totals: totals,
-        budget: run.budget,
+        budget: budget,
         counts: Counts {
             steps: taken + 1,
             forms: counts.forms,

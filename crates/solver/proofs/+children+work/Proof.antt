@@ -1,5 +1,6 @@
 -- The two workers meet their contracts together. Each call leaves less to do: what remains of the branch, twice, and one more for a branch not yet split.
--- The children's loop keeps that the children so far were worked as they should be and the word has those that are left; it ends with their numbers. A branch returns where propagation ended it, as a form, with the budget spent, or with its children worked.
+-- A branch's loop keeps that its propagation steps reach the branch as it is; every step leaves less of it. It returns with the budget spent, closed, as a form, or with its children worked.
+-- The children's loop keeps that the children so far were worked as they should be, and that the word has those that are left; it ends with their numbers.
 use mathlib.Core.Path.{_≡_, refl, ap, _∙_}
 use mathlib.Core.Logic.{⊎-elim}
 use Prim.Native.Nat.{ℕ, _+_, _-_, _*_, _<_, _≤_}
@@ -8,13 +9,14 @@ use lib.ListN.{length}
 use borrow.Author.Needs.{needs}
 use borrow.Fn.Kinds.{In}
 use borrow.Fn.PlainCycle.{Measures, is, falls, and}
-use Rattle.calculus.proofs.Bools.{not-t, not-f}
+use mathlib.Core.Bool.{false≢true}
 use Rattle.problem.specs.Table.{tableBy}
 use Rattle.constraints.proofs.Decoding.{two-operands}
-use Rattle.solver.specs.Outcomes.{remaining}
+use Rattle.solver.specs.Outcomes.{remaining, Ready}
 use Rattle.solver.proofs.Opening.{terms-few, stands, lent, shows}
-use Rattle.solver.proofs.Waking.{narrowed-splits, widened}
-use Rattle.solver.proofs.Taking.{taking, none-found, is-placed, low-act, child-sound, child-less}
+use Rattle.solver.proofs.Waking.{narrowed, narrowed-splits, quieted, widened}
+use Rattle.solver.proofs.Taking.{taking, none-found, is-placed, first-there, somewhere, not-20, inferred, low-act, child-sound, child-less}
+use Rattle.solver.proofs.Settling.{Reached, reached-start, reached-again, reaches, step-spent, step-closes, step-goes}
 use Rattle.solver.proofs.Workers.{same-room, rooted, decodes, relisted, free, left-number, splitting, split-taking, split-decodes, works-form, works-spent, works-split, split-begun, Worked, worked-begin, worked-done, worked-skip, made, opens, worked-next, worked-stop}
 use Rattle.solver.proofs.children.Reads as children
 use Rattle.solver.proofs.children.Kinds as children-kinds
@@ -26,7 +28,7 @@ use Rattle.constraints.proofs.list_at.Reads as list-at-reads
 use Rattle.output.proofs.list_form.Reads as list-form-reads
 use Rattle.output.proofs.note.Reads as note-reads
 use Rattle.search.proofs.search.Reads as search-reads
-use Rattle.solver.proofs.settle.Reads as settle-reads
+use Rattle.step.proofs.act_of.Reads as act-of-reads
 use Rattle.step.proofs.child_at.Reads as child-at-reads
 use Rattle.step.proofs.kept.Reads as kept-reads
 use Rattle.step.proofs.number.Reads as number-reads
@@ -62,13 +64,21 @@ abbrev children-μ-loop : children-lts.MeasureT-loop
 children-μ-loop problem numbers offsets witnesses words forms₀ trace₀ b run totals rule l h n entries count left₀ counts₀ k₀ forms trace left counts k =
     count - k
 
+abbrev work-Inv-loop : work-lts.InvT-loop
+work-Inv-loop problem numbers offsets witnesses words forms trace₀ totals budget at₀ counts₀ wake₀ ripe₀ trace at counts wake ripe =
+    Reached problem (tableBy totals offsets witnesses) budget at₀ counts₀ trace₀ at counts trace × (length trace ≡ length trace₀) × Ready problem (tableBy totals offsets witnesses) at wake ripe
+
+abbrev work-μ-loop : work-lts.MeasureT-loop
+work-μ-loop problem numbers offsets witnesses words forms trace₀ totals budget at₀ counts₀ wake₀ ripe₀ trace at counts wake ripe =
+    remaining problem (tableBy totals offsets witnesses) at
+
 abbrev calls-children : ℕ → children-lts.Claims
 calls-children t =
     (list-at-reads.Asked, list-at-reads.Learnt, slots-reads.Asked, slots-reads.Learnt, child-at-reads.Asked, child-at-reads.Learnt, perform-reads.Asked, perform-reads.Learnt, wakes-reads.Asked, wakes-reads.Learnt, work-below t, work.Post)
 
 abbrev calls-work : ℕ → work-lts.Claims
 calls-work t =
-    (settle-reads.Asked, settle-reads.Learnt, search-reads.Asked, search-reads.Learnt, list-form-reads.Asked, list-form-reads.Learnt, list-at-reads.Asked, list-at-reads.Learnt, kept-reads.Asked, kept-reads.Learnt, number-reads.Asked, number-reads.Learnt, note-reads.Asked, note-reads.Learnt, children-below t, children.Post)
+    (search-reads.Asked, search-reads.Learnt, act-of-reads.Asked, act-of-reads.Learnt, perform-reads.Asked, perform-reads.Learnt, note-reads.Asked, note-reads.Learnt, wakes-reads.Asked, wakes-reads.Learnt, list-form-reads.Asked, list-form-reads.Learnt, list-at-reads.Asked, list-at-reads.Learnt, kept-reads.Asked, kept-reads.Learnt, number-reads.Asked, number-reads.Learnt, children-below t, children.Post)
 
 -- ---- the children's places: the start before the entries were listed; the listing, the slots and the loop's turn before a child
 
@@ -189,149 +199,259 @@ children-returns-2 t c =
     let q = start t l .pre .1 in
     worked-done (split-taking (q .0 .tabled .opened) (q .1) (l .list-at .ensures)) (c .before .loop .inv .0) (omega (arith, c .loop-test .left, c .before .before .before .slots .ensures))
 
--- ---- the branch's places: the start, the propagation and its test before the search; the search, its tests and the entries before the children were kept
+-- ---- the branch's places: the start and the loop's turn before a search; the search before an act; the search for propagation rules before that for splits, and that before the children were kept
 
-abbrev begins : (t : ℕ) → work-lts.After-search (calls-work t) (work-at t) work.Post → work-lts.Start (calls-work t) (work-at t) work.Post
-begins t c = c .before .before .before .before .before .before .before .before .before .before .before .before .before .before .before .before .before .before .before .before .before .before
+abbrev start-of : (t : ℕ) → work-lts.After-search (calls-work t) (work-at t) work.Post work-Inv-loop work-μ-loop → work-lts.Start (calls-work t) (work-at t) work.Post work-Inv-loop work-μ-loop
+start-of t c = c .before .before .before .before .before .before .before .before .before .before .before .before .before .before .before .before
 
-abbrev inferred : (t : ℕ) → work-lts.After-search (calls-work t) (work-at t) work.Post → work-lts.After-settle (calls-work t) (work-at t) work.Post
-inferred t c = c .before .before .before .before .before .before .before .before .before .before .before .before .before
+abbrev turn-of : (t : ℕ) → work-lts.After-search (calls-work t) (work-at t) work.Post work-Inv-loop work-μ-loop → work-lts.At-loop (calls-work t) (work-at t) work.Post work-Inv-loop work-μ-loop
+turn-of t c = c .before .before .before .before .before .before
 
-abbrev goes-on : (t : ℕ) → work-lts.After-search (calls-work t) (work-at t) work.Post → work-lts.Else1 (calls-work t) (work-at t) work.Post
-goes-on t c = c .before .before .before .before .before .before .before .before
+abbrev searched : (t : ℕ) → work-lts.After-perform (calls-work t) (work-at t) work.Post work-Inv-loop work-μ-loop → work-lts.After-search (calls-work t) (work-at t) work.Post work-Inv-loop work-μ-loop
+searched t c = c .before .before .before .before .before .before .before .before
 
-abbrev searched : (t : ℕ) → work-lts.After-kept (calls-work t) (work-at t) work.Post → work-lts.After-search (calls-work t) (work-at t) work.Post
-searched t c = c .before .before .before .before .before .before .before .before .before .before .before .before .before .before .before .before
+abbrev settled : (t : ℕ) → work-lts.After-search2 (calls-work t) (work-at t) work.Post work-Inv-loop work-μ-loop → work-lts.After-search (calls-work t) (work-at t) work.Post work-Inv-loop work-μ-loop
+settled t c = c .before .before .before .before .before .before .before
 
-work-settle-requires : (t : ℕ) → work-lts.Need-settle-requires (calls-work t) (work-at t) work.Post
-work-settle-requires t c κs = let q = c .before .before .before .before .before .before .before .before .pre .1 in (q .0, q .1, record { on = q .2 .on; within = q .2 .fine .within; few = q .2 .fine .few; traced = q .2 .fine .traced })
+abbrev split-at : (t : ℕ) → work-lts.After-kept (calls-work t) (work-at t) work.Post work-Inv-loop work-μ-loop → work-lts.After-search2 (calls-work t) (work-at t) work.Post work-Inv-loop work-μ-loop
+split-at t c = c .before .before .before .before .before .before .before .before .before .before .before .before .before .before .before
 
-work-same-length : (t : ℕ) → work-lts.Need-same-length (calls-work t) (work-at t) work.Post
+work-loop-holds : (t : ℕ) → work-lts.Need-loop-holds (calls-work t) (work-at t) work.Post work-Inv-loop work-μ-loop
+work-loop-holds t c = let p = c .before .before .before .before .before .before .before .before .before .pre .1 in (reached-start (record { on = p .2 .on; within = p .2 .fine .within; few = p .2 .fine .few; traced = p .2 .fine .traced }), refl, p .1)
+
+work-search-requires : (t : ℕ) → work-lts.Need-search-requires (calls-work t) (work-at t) work.Post work-Inv-loop work-μ-loop
+work-search-requires t c κs = let y = c .before .before .before .before .before .loop .inv .2 in (c .before .before .before .before .before .before .before .before .before .before .before .before .before .before .before .pre .1 .0, lent (y .sound), y .wake-low)
+
+work-same-length : (t : ℕ) → work-lts.Need-same-length (calls-work t) (work-at t) work.Post work-Inv-loop work-μ-loop
 work-same-length t c = search needs
 
-work-returns : (t : ℕ) → work-lts.Need-returns (calls-work t) (work-at t) work.Post
-work-returns t c = c .before .before .before .before .before .settle .ensures .ended (not-t _ (c .if1 .taken)) _
+work-returns : (t : ℕ) → work-lts.Need-returns (calls-work t) (work-at t) work.Post work-Inv-loop work-μ-loop
+work-returns t c =
+    let s = c .before .before in
+    let p = start-of t s .pre .1 in
+    let v = turn-of t s .loop .inv .0 in
+    let y = turn-of t s .loop .inv .2 in
+    let k = taking (p .0 .tabled .opened) (y .sound) (s .search .ensures _ (shows (y .sound)) (y .propagation)) (λ e. absurd (false≢true e)) (c .before .if1 .left) in
+    reaches v _ _ (step-spent k _ _ (v .going) (c .if2 .taken) _)
 
-work-search-requires : (t : ℕ) → work-lts.Need-search-requires (calls-work t) (work-at t) work.Post
-work-search-requires t c κs = let y = c .before .before .before .before .before .before .before .before .before .before .before .before .settle .ensures .ready (not-f _ (c .before .before .before .before .before .before .before .if1 .left)) in (c .before .before .before .before .before .before .before .before .before .before .before .before .before .before .before .before .before .before .before .before .before .pre .1 .0, lent (y .sound), y .ripe-low)
+work-act-of-requires : (t : ℕ) → work-lts.Need-act-of-requires (calls-work t) (work-at t) work.Post work-Inv-loop work-μ-loop
+work-act-of-requires t c κs =
+    let s = c .before .before .before .before .before .before in
+    let p = start-of t s .pre .1 in
+    let v = turn-of t s .loop .inv .0 in
+    let y = turn-of t s .loop .inv .2 in
+    let k = taking (p .0 .tabled .opened) (y .sound) (s .search .ensures _ (shows (y .sound)) (y .propagation)) (λ e. absurd (false≢true e)) (c .before .before .before .before .before .if1 .left) in
+    (y .sound .good .sized, y .sound .good .falls, somewhere k, not-20 k)
 
-work-list-form-requires : (t : ℕ) → work-lts.Need-list-form-requires (calls-work t) (work-at t) work.Post
+work-perform-requires : (t : ℕ) → work-lts.Need-perform-requires (calls-work t) (work-at t) work.Post work-Inv-loop work-μ-loop
+work-perform-requires t c κs =
+    let s = c .before .before .before .before .before .before .before in
+    let p = start-of t s .pre .1 in
+    let v = turn-of t s .loop .inv .0 in
+    let y = turn-of t s .loop .inv .2 in
+    let k = taking (p .0 .tabled .opened) (y .sound) (s .search .ensures _ (shows (y .sound)) (y .propagation)) (λ e. absurd (false≢true e)) (c .before .before .before .before .before .before .if1 .left) in
+    c .act-of .ensures .0 _ _ (is-placed k) (first-there k) .rooted
+
+work-add-t45 : (t : ℕ) → work-lts.Need-add-t45 (calls-work t) (work-at t) work.Post work-Inv-loop work-μ-loop
+work-add-t45 t c = let g = turn-of t (searched t (c .before)) .loop .inv .0 .going in omega (arith, g .within, g .few)
+
+work-note-requires : (t : ℕ) → work-lts.Need-note-requires (calls-work t) (work-at t) work.Post work-Inv-loop work-μ-loop
+work-note-requires t c κs = let q = c .before .before .before in let g = turn-of t (searched t q) .loop .inv .0 .going in omega (arith, g .within, g .traced, q .before .before .before .before .before .before .if2 .left)
+
+work-same-length-2 : (t : ℕ) → work-lts.Need-same-length-2 (calls-work t) (work-at t) work.Post work-Inv-loop work-μ-loop
+work-same-length-2 t c = c .before .trace .given ∙ turn-of t (searched t (c .before .before .before .before .before .before)) .loop .inv .1
+
+work-returns-2 : (t : ℕ) → work-lts.Need-returns-2 (calls-work t) (work-at t) work.Post work-Inv-loop work-μ-loop
+work-returns-2 t c =
+    let q = c .before .before .before .before .before .before in
+    let s = searched t q in
+    let p = start-of t s .pre .1 in
+    let v = turn-of t s .loop .inv .0 in
+    let y = turn-of t s .loop .inv .2 in
+    let f = s .search .ensures _ (shows (y .sound)) (y .propagation) in
+    let n = q .before .before .before .before .before .before .before .if1 .left in
+    let k = taking (p .0 .tabled .opened) (y .sound) f (λ e. absurd (false≢true e)) n in
+    let m = inferred k (q .before .act-of .ensures .0 _ _ (is-placed k) (first-there k)) (q .perform .ensures) in
+    reaches v _ _ (step-closes k _ _ (v .going) m (omega (arith, v .going .within, q .before .before .before .before .before .before .if2 .left)) (c .before .before .before .before .if3 .taken) _ (c .before .before .note .ensures) _)
+
+work-note-requires-2 : (t : ℕ) → work-lts.Need-note-requires-2 (calls-work t) (work-at t) work.Post work-Inv-loop work-μ-loop
+work-note-requires-2 t c κs = let q = c .before .before .before in let g = turn-of t (searched t q) .loop .inv .0 .going in omega (arith, g .within, g .traced, q .before .before .before .before .before .before .if2 .left)
+
+work-wakes-requires : (t : ℕ) → work-lts.Need-wakes-requires (calls-work t) (work-at t) work.Post work-Inv-loop work-μ-loop
+work-wakes-requires t c κs = start-of t (searched t (c .before .before .before .before .before .before)) .pre .1 .0 .words-are .long
+
+work-loop-less : (t : ℕ) → work-lts.Need-loop-less (calls-work t) (work-at t) work.Post work-Inv-loop work-μ-loop
+work-loop-less t c =
+    let q = c .before .before .before .before .before .before .before .before in
+    let s = searched t q in
+    let p = start-of t s .pre .1 in
+    let v = turn-of t s .loop .inv .0 in
+    let y = turn-of t s .loop .inv .2 in
+    let f = s .search .ensures _ (shows (y .sound)) (y .propagation) in
+    let n = q .before .before .before .before .before .before .before .if1 .left in
+    let k = taking (p .0 .tabled .opened) (y .sound) f (λ e. absurd (false≢true e)) n in
+    let m = inferred k (q .before .act-of .ensures .0 _ _ (is-placed k) (first-there k)) (q .perform .ensures) in
+    child-less k m (c .before .before .before .before .before .before .if3 .left)
+
+work-loop-again : (t : ℕ) → work-lts.Need-loop-again (calls-work t) (work-at t) work.Post work-Inv-loop work-μ-loop
+work-loop-again t c =
+    let q = c .before .before .before .before .before .before .before .before in
+    let s = searched t q in
+    let p = start-of t s .pre .1 in
+    let v = turn-of t s .loop .inv .0 in
+    let y = turn-of t s .loop .inv .2 in
+    let f = s .search .ensures _ (shows (y .sound)) (y .propagation) in
+    let n = q .before .before .before .before .before .before .before .if1 .left in
+    let k = taking (p .0 .tabled .opened) (y .sound) f (λ e. absurd (false≢true e)) n in
+    let m = inferred k (q .before .act-of .ensures .0 _ _ (is-placed k) (first-there k)) (q .perform .ensures) in
+    let x = c .before .before .before .before .before .before .if3 .left in (
+      reached-again v (step-goes k _ _ (v .going) m (omega (arith, v .going .within, q .before .before .before .before .before .before .if2 .left)) x _ (c .before .before .before .before .note2 .ensures)),
+      c .before .before .before .trace2 .given ∙ turn-of t s .loop .inv .1,
+      widened (p .0) (narrowed (p .0) y f) (q .before .act-of .result) _ (q .before .act-of .ensures .0 _ _ (is-placed k) (first-there k) .rooted) (low-act k (q .before .act-of .result) (q .before .act-of .ensures .1 (f .there n .entries))) (c .before .wakes .ensures) (q .perform .ensures) (child-sound k m x),
+    )
+
+work-search-requires-2 : (t : ℕ) → work-lts.Need-search-requires-2 (calls-work t) (work-at t) work.Post work-Inv-loop work-μ-loop
+work-search-requires-2 t c κs = let y = turn-of t (c .before .before .before .before .before .before) .loop .inv .2 in (start-of t (c .before .before .before .before .before .before) .pre .1 .0, lent (y .sound), y .ripe-low)
+
+work-list-form-requires : (t : ℕ) → work-lts.Need-list-form-requires (calls-work t) (work-at t) work.Post work-Inv-loop work-μ-loop
 work-list-form-requires t c κs =
     let x = c .before .before in
-    let q = begins t x .pre .1 in
-    let g = inferred t x .settle .ensures .reached (not-f _ (goes-on t x .if1 .left)) in
-    (terms-few _ _ (q .0 .tabled .opened), g .sound .good .falls, same-room _ _ _ _ (g .same) (q .2 .fine .written), λ z. g .same ∙ q .2 .no-terms z)
+    let s = settled t x in
+    let p = start-of t s .pre .1 in
+    let v = turn-of t s .loop .inv .0 in
+    let y = turn-of t s .loop .inv .2 in
+    let z = x .before .before .before .before .before .before .if1 .taken in
+    (terms-few _ _ (p .0 .tabled .opened), y .sound .good .falls, same-room _ _ _ _ (v .same) (p .2 .fine .written), λ e. v .same ∙ p .2 .no-terms e)
 
-work-same-length-2 : (t : ℕ) → work-lts.Need-same-length-2 (calls-work t) (work-at t) work.Post
-work-same-length-2 t c = search needs
-
-work-same-length-3 : (t : ℕ) → work-lts.Need-same-length-3 (calls-work t) (work-at t) work.Post
+work-same-length-3 : (t : ℕ) → work-lts.Need-same-length-3 (calls-work t) (work-at t) work.Post work-Inv-loop work-μ-loop
 work-same-length-3 t c = search needs
 
-work-returns-2 : (t : ℕ) → work-lts.Need-returns-2 (calls-work t) (work-at t) work.Post
-work-returns-2 t c =
-    let x = c .before .before .before .before .before in
-    let q = begins t x .pre .1 in
-    let z = not-f _ (goes-on t x .if1 .left) in
-    let g = inferred t x .settle .ensures .reached z in
-    works-form (q .0 .tabled .opened) (inferred t x .settle .ensures) z _ (none-found (q .0 .tabled .opened) (g .sound) (x .search .ensures _ (shows (g .sound)) (inferred t x .settle .ensures .ready (not-f _ (goes-on t x .if1 .left)) .splits)) (c .before .before .before .before .if2 .taken)) _ _ (c .before .before .list-form .ensures)
+work-same-length-4 : (t : ℕ) → work-lts.Need-same-length-4 (calls-work t) (work-at t) work.Post work-Inv-loop work-μ-loop
+work-same-length-4 t c = turn-of t (settled t (c .before .before .before .before .before)) .loop .inv .1
 
-work-same-length-4 : (t : ℕ) → work-lts.Need-same-length-4 (calls-work t) (work-at t) work.Post
-work-same-length-4 t c = search needs
-
-work-returns-3 : (t : ℕ) → work-lts.Need-returns-3 (calls-work t) (work-at t) work.Post
+work-returns-3 : (t : ℕ) → work-lts.Need-returns-3 (calls-work t) (work-at t) work.Post work-Inv-loop work-μ-loop
 work-returns-3 t c =
-    let x = c .before .before .before in
-    let q = begins t x .pre .1 in
-    let e = inferred t x .settle .ensures in
-    let z = not-f _ (goes-on t x .if1 .left) in
-    let g = e .reached z in
-    works-spent (q .0 .tabled .opened) e z _ (taking (q .0 .tabled .opened) (g .sound) (x .search .ensures _ (shows (g .sound)) (inferred t x .settle .ensures .ready (not-f _ (goes-on t x .if1 .left)) .splits)) (λ _. e .none-applies z) (c .before .before .if2 .left)) (c .if3 .taken)
+    let x = c .before .before .before .before .before in
+    let s = settled t x in
+    let p = start-of t s .pre .1 in
+    let v = turn-of t s .loop .inv .0 in
+    let y = turn-of t s .loop .inv .2 in
+    let z = x .before .before .before .before .before .before .if1 .taken in
+    works-form (p .0 .tabled .opened) v _ (y .sound) (none-found (p .0 .tabled .opened) (y .sound) (s .search .ensures _ (shows (y .sound)) (y .propagation)) z) (none-found (p .0 .tabled .opened) (y .sound) (x .search2 .ensures _ (shows (y .sound)) (y .splits)) (c .before .before .before .before .if4 .taken)) _ _ (c .before .before .list-form .ensures)
 
-work-cast-n : (t : ℕ) → work-lts.Need-cast-n (calls-work t) (work-at t) work.Post
+work-same-length-5 : (t : ℕ) → work-lts.Need-same-length-5 (calls-work t) (work-at t) work.Post work-Inv-loop work-μ-loop
+work-same-length-5 t c = turn-of t (settled t (c .before .before)) .loop .inv .1
+
+work-returns-4 : (t : ℕ) → work-lts.Need-returns-4 (calls-work t) (work-at t) work.Post work-Inv-loop work-μ-loop
+work-returns-4 t c =
+    let x = c .before .before in
+    let s = settled t x in
+    let p = start-of t s .pre .1 in
+    let v = turn-of t s .loop .inv .0 in
+    let y = turn-of t s .loop .inv .2 in
+    let z = x .before .before .before .before .before .before .if1 .taken in
+    let k = taking (p .0 .tabled .opened) (y .sound) (x .search2 .ensures _ (shows (y .sound)) (y .splits)) (λ _. (none-found (p .0 .tabled .opened) (y .sound) (s .search .ensures _ (shows (y .sound)) (y .propagation)) z)) (c .before .if4 .left) in
+    works-spent (p .0 .tabled .opened) v _ k (c .if5 .taken)
+
+work-cast-n : (t : ℕ) → work-lts.Need-cast-n (calls-work t) (work-at t) work.Post work-Inv-loop work-μ-loop
 work-cast-n t c = search needs
 
-work-mul-list-at : (t : ℕ) → work-lts.Need-mul-list-at (calls-work t) (work-at t) work.Post
+work-mul-list-at : (t : ℕ) → work-lts.Need-mul-list-at (calls-work t) (work-at t) work.Post work-Inv-loop work-μ-loop
 work-mul-list-at t c = search needs
 
-work-shared-slice-read-list-at : (t : ℕ) → work-lts.Need-shared-slice-read-list-at (calls-work t) (work-at t) work.Post
+work-shared-slice-read-list-at : (t : ℕ) → work-lts.Need-shared-slice-read-list-at (calls-work t) (work-at t) work.Post work-Inv-loop work-μ-loop
 work-shared-slice-read-list-at t c =
-    let x = c .before .before .before .before .before in
-    let q = begins t x .pre .1 in
-    let g = inferred t x .settle .ensures .reached (not-f _ (goes-on t x .if1 .left)) in
-    let h = x .search .ensures _ (shows (g .sound)) (inferred t x .settle .ensures .ready (not-f _ (goes-on t x .if1 .left)) .splits) .there (c .before .before .before .before .if2 .left) in
-    omega (arith, q .0 .tabled .sized, stands _ _ (q .0 .tabled .opened) _ (h .within .in-problem) .0)
+    let x = c .before .before .before .before in
+    let s = settled t x in
+    let p = start-of t s .pre .1 in
+    let v = turn-of t s .loop .inv .0 in
+    let y = turn-of t s .loop .inv .2 in
+    let z = x .before .before .before .before .before .before .if1 .taken in
+    let h = x .search2 .ensures _ (shows (y .sound)) (y .splits) .there (c .before .before .before .if4 .left) in
+    omega (arith, p .0 .tabled .sized, stands _ _ (p .0 .tabled .opened) _ (h .within .in-problem) .0)
 
-work-cast-list-at : (t : ℕ) → work-lts.Need-cast-list-at (calls-work t) (work-at t) work.Post
+work-cast-list-at : (t : ℕ) → work-lts.Need-cast-list-at (calls-work t) (work-at t) work.Post work-Inv-loop work-μ-loop
 work-cast-list-at t c =
-    let x = c .before .before .before .before .before in
-    let q = begins t x .pre .1 in
-    let g = inferred t x .settle .ensures .reached (not-f _ (goes-on t x .if1 .left)) in
-    let h = x .search .ensures _ (shows (g .sound)) (inferred t x .settle .ensures .ready (not-f _ (goes-on t x .if1 .left)) .splits) .there (c .before .before .before .before .if2 .left) in
-    omega (arith, two-operands _ _ _ (stands _ _ (q .0 .tabled .opened) _ (h .within .in-problem) .1))
+    let x = c .before .before .before .before in
+    let s = settled t x in
+    let p = start-of t s .pre .1 in
+    let v = turn-of t s .loop .inv .0 in
+    let y = turn-of t s .loop .inv .2 in
+    let z = x .before .before .before .before .before .before .if1 .taken in
+    let h = x .search2 .ensures _ (shows (y .sound)) (y .splits) .there (c .before .before .before .if4 .left) in
+    omega (arith, two-operands _ _ _ (stands _ _ (p .0 .tabled .opened) _ (h .within .in-problem) .1))
 
-work-list-at-requires : (t : ℕ) → work-lts.Need-list-at-requires (calls-work t) (work-at t) work.Post
+work-list-at-requires : (t : ℕ) → work-lts.Need-list-at-requires (calls-work t) (work-at t) work.Post work-Inv-loop work-μ-loop
 work-list-at-requires t c κs =
-    let x = c .before .before .before .before .before in
-    let q = begins t x .pre .1 in
-    let e = inferred t x .settle .ensures in
-    let z = not-f _ (goes-on t x .if1 .left) in
-    let g = e .reached z in
-    let s = taking (q .0 .tabled .opened) (g .sound) (x .search .ensures _ (shows (g .sound)) (inferred t x .settle .ensures .ready (not-f _ (goes-on t x .if1 .left)) .splits)) (λ _. e .none-applies z) (c .before .before .before .before .if2 .left) in
-    (stands _ _ (q .0 .tabled .opened) _ (s .located .within .in-problem) .1, q .0 .numbers-are, decodes s)
+    let x = c .before .before .before .before in
+    let s = settled t x in
+    let p = start-of t s .pre .1 in
+    let v = turn-of t s .loop .inv .0 in
+    let y = turn-of t s .loop .inv .2 in
+    let z = x .before .before .before .before .before .before .if1 .taken in
+    let k = taking (p .0 .tabled .opened) (y .sound) (x .search2 .ensures _ (shows (y .sound)) (y .splits)) (λ _. (none-found (p .0 .tabled .opened) (y .sound) (s .search .ensures _ (shows (y .sound)) (y .propagation)) z)) (c .before .before .before .if4 .left) in
+    (stands _ _ (p .0 .tabled .opened) _ (k .located .within .in-problem) .1, p .0 .numbers-are, decodes k)
 
-work-kept-requires : (t : ℕ) → work-lts.Need-kept-requires (calls-work t) (work-at t) work.Post
+work-kept-requires : (t : ℕ) → work-lts.Need-kept-requires (calls-work t) (work-at t) work.Post work-Inv-loop work-μ-loop
 work-kept-requires t c κs =
-    let x = c .before .before .before .before .before .before .before .before .before .before .before .before .before .before .before in
-    let q = begins t x .pre .1 in
-    let e = inferred t x .settle .ensures in
-    let z = not-f _ (goes-on t x .if1 .left) in
-    let g = e .reached z in
-    let s = relisted (rooted (taking (q .0 .tabled .opened) (g .sound) (x .search .ensures _ (shows (g .sound)) (inferred t x .settle .ensures .ready (not-f _ (goes-on t x .if1 .left)) .splits)) (λ _. e .none-applies z) (c .before .before .before .before .before .before .before .before .before .before .before .before .before .before .if2 .left))) (c .before .before .before .before .before .before .before .before .before .list-at .ensures) in
-    (g .sound .good .sized, g .sound .good .sized-in, g .sound .good .sized-out, g .sound .good .falls, g .sound .rowed .rows, is-placed s, free s)
+    let x = c .before .before .before .before .before .before .before .before .before .before .before .before .before .before in
+    let s = settled t x in
+    let p = start-of t s .pre .1 in
+    let v = turn-of t s .loop .inv .0 in
+    let y = turn-of t s .loop .inv .2 in
+    let z = x .before .before .before .before .before .before .if1 .taken in
+    let k = taking (p .0 .tabled .opened) (y .sound) (x .search2 .ensures _ (shows (y .sound)) (y .splits)) (λ _. (none-found (p .0 .tabled .opened) (y .sound) (s .search .ensures _ (shows (y .sound)) (y .propagation)) z)) (c .before .before .before .before .before .before .before .before .before .before .before .before .before .if4 .left) in
+    let r = relisted (rooted k) (c .before .before .before .before .before .before .before .before .before .list-at .ensures) in
+    (y .sound .good .sized, y .sound .good .sized-in, y .sound .good .sized-out, y .sound .good .falls, y .sound .rowed .rows, is-placed r, free r)
 
-work-number-requires : (t : ℕ) → work-lts.Need-number-requires (calls-work t) (work-at t) work.Post
+work-number-requires : (t : ℕ) → work-lts.Need-number-requires (calls-work t) (work-at t) work.Post work-Inv-loop work-μ-loop
 work-number-requires t c κs = search needs
 
-work-note-requires : (t : ℕ) → work-lts.Need-note-requires (calls-work t) (work-at t) work.Post
-work-note-requires t c κs =
-    let k = c .before .before in
-    let x = searched t k in
-    let g = inferred t x .settle .ensures .reached (not-f _ (goes-on t x .if1 .left)) .going in
-    omega (arith, g .within, g .traced, k .before .before .before .before .before .before .before .before .before .before .before .before .before .if3 .left)
+work-note-requires-3 : (t : ℕ) → work-lts.Need-note-requires-3 (calls-work t) (work-at t) work.Post work-Inv-loop work-μ-loop
+work-note-requires-3 t c κs = let k = c .before .before in let g = turn-of t (settled t (split-at t k)) .loop .inv .0 .going in omega (arith, g .within, g .traced, k .before .before .before .before .before .before .before .before .before .before .before .before .before .if5 .left)
 
-work-add-t35 : (t : ℕ) → work-lts.Need-add-t35 (calls-work t) (work-at t) work.Post
-work-add-t35 t c = let x = searched t (c .before .before .before .before .before) in let g = inferred t x .settle .ensures .reached (not-f _ (goes-on t x .if1 .left)) .going in omega (arith, g .within, g .few)
+work-add-t60 : (t : ℕ) → work-lts.Need-add-t60 (calls-work t) (work-at t) work.Post work-Inv-loop work-μ-loop
+work-add-t60 t c = let g = turn-of t (settled t (split-at t (c .before .before .before .before .before))) .loop .inv .0 .going in omega (arith, g .within, g .few)
 
-work-children-requires : (t : ℕ) → work-lts.Need-children-requires (calls-work t) (work-at t) work.Post
+work-children-requires : (t : ℕ) → work-lts.Need-children-requires (calls-work t) (work-at t) work.Post work-Inv-loop work-μ-loop
 work-children-requires t c κs =
-    let k = c .before .before .before .before .before .before .before in
-    let x = searched t k in
-    let q = begins t x .pre .1 in
-    let e = inferred t x .settle .ensures in
-    let z = not-f _ (goes-on t x .if1 .left) in
-    let g = e .reached z in
-    let s = relisted (rooted (taking (q .0 .tabled .opened) (g .sound) (x .search .ensures _ (shows (g .sound)) (inferred t x .settle .ensures .ready (not-f _ (goes-on t x .if1 .left)) .splits)) (λ _. e .none-applies z) (k .before .before .before .before .before .before .before .before .before .before .before .before .before .before .before .if2 .left))) (k .before .before .before .before .before .before .before .before .before .before .list-at .ensures) in
-    let L = k .kept .ensures _ (g .sound .good) (g .sound .rowed .fixed) in
-    (omega (arith, g .less, begins t x .pre .0), (q .0, splitting s _ (search needs) L _ (narrowed-splits (q .0) (e .ready z) (x .search .ensures _ (shows (g .sound)) (e .ready z .splits))), split-begun (q .0 .tabled .opened) e z _ s (k .before .before .before .before .before .before .before .before .before .before .before .before .before .if3 .left) _ (c .before .before .before .before .before .number .ensures ∙ left-number s _ (search needs) L) _ (c .before .before .before .before .note .ensures) (q .2 .fine)))
+    let i = c .before .before .before .before .before .before .before in
+    let x = split-at t i in
+    let s = settled t x in
+    let p = start-of t s .pre .1 in
+    let v = turn-of t s .loop .inv .0 in
+    let y = turn-of t s .loop .inv .2 in
+    let z = x .before .before .before .before .before .before .if1 .taken in
+    let k = taking (p .0 .tabled .opened) (y .sound) (x .search2 .ensures _ (shows (y .sound)) (y .splits)) (λ _. (none-found (p .0 .tabled .opened) (y .sound) (s .search .ensures _ (shows (y .sound)) (y .propagation)) z)) (i .before .before .before .before .before .before .before .before .before .before .before .before .before .before .if4 .left) in
+    let r = relisted (rooted k) (i .before .before .before .before .before .before .before .before .before .before .list-at .ensures) in
+    let L = i .kept .ensures _ (y .sound .good) (y .sound .rowed .fixed) in (
+      omega (arith, v .less, start-of t s .pre .0),
+      (
+        p .0,
+        splitting r _ (search needs) L _ (narrowed-splits (p .0) (quieted (p .0) y (s .search .ensures _ (shows (y .sound)) (y .propagation)) z) (x .search2 .ensures _ (shows (y .sound)) (y .splits))),
+        split-begun (p .0 .tabled .opened) v _ r (i .before .before .before .before .before .before .before .before .before .before .before .before .before .if5 .left) _ (c .before .before .before .before .before .number .ensures ∙ left-number r _ (search needs) L) _ (c .before .before .before .before .note3 .ensures) (p .2 .fine),
+      ),
+    )
 
-work-same-length-5 : (t : ℕ) → work-lts.Need-same-length-5 (calls-work t) (work-at t) work.Post
-work-same-length-5 t c = search needs
+work-same-length-6 : (t : ℕ) → work-lts.Need-same-length-6 (calls-work t) (work-at t) work.Post work-Inv-loop work-μ-loop
+work-same-length-6 t c = search needs
 
-work-same-length-6 : (t : ℕ) → work-lts.Need-same-length-6 (calls-work t) (work-at t) work.Post
-work-same-length-6 t c = c .before .trace3 .given ∙ c .before .before .before .before .before .before .before .before .trace2 .given ∙ c .before .before .before .before .before .before .before .before .before .before .before .before .before .before .before .before .before .before .before .before .before .before .before .before .before .before .before .before .before .before .before .before .before .before .before .before .before .before .before .before .trace .given
+work-same-length-7 : (t : ℕ) → work-lts.Need-same-length-7 (calls-work t) (work-at t) work.Post work-Inv-loop work-μ-loop
+work-same-length-7 t c = c .before .trace4 .given ∙ c .before .before .before .before .before .before .before .before .trace3 .given ∙ turn-of t (settled t (split-at t (c .before .before .before .before .before .before .before .before .before .before .before .before))) .loop .inv .1
 
-work-returns-4 : (t : ℕ) → work-lts.Need-returns-4 (calls-work t) (work-at t) work.Post
-work-returns-4 t c =
-    let k = c .before .before .before .before .before .before .before .before .before .before .before .before in
-    let x = searched t k in
-    let q = begins t x .pre .1 in
-    let e = inferred t x .settle .ensures in
-    let z = not-f _ (goes-on t x .if1 .left) in
-    let g = e .reached z in
-    let s = relisted (rooted (taking (q .0 .tabled .opened) (g .sound) (x .search .ensures _ (shows (g .sound)) (inferred t x .settle .ensures .ready (not-f _ (goes-on t x .if1 .left)) .splits)) (λ _. e .none-applies z) (k .before .before .before .before .before .before .before .before .before .before .before .before .before .before .before .if2 .left))) (k .before .before .before .before .before .before .before .before .before .before .list-at .ensures) in
-    let L = k .kept .ensures _ (g .sound .good) (g .sound .rowed .fixed) in
-    works-split (q .0 .tabled .opened) e z _ s (k .before .before .before .before .before .before .before .before .before .before .before .before .before .if3 .left) _ (c .before .before .before .before .before .before .before .before .before .before .number .ensures ∙ left-number s _ (search needs) L) _ (c .before .before .before .before .before .before .before .before .before .note .ensures) _ (c .before .before .before .before .children .ensures)
+work-returns-5 : (t : ℕ) → work-lts.Need-returns-5 (calls-work t) (work-at t) work.Post work-Inv-loop work-μ-loop
+work-returns-5 t c =
+    let i = c .before .before .before .before .before .before .before .before .before .before .before .before in
+    let x = split-at t i in
+    let s = settled t x in
+    let p = start-of t s .pre .1 in
+    let v = turn-of t s .loop .inv .0 in
+    let y = turn-of t s .loop .inv .2 in
+    let z = x .before .before .before .before .before .before .if1 .taken in
+    let k = taking (p .0 .tabled .opened) (y .sound) (x .search2 .ensures _ (shows (y .sound)) (y .splits)) (λ _. (none-found (p .0 .tabled .opened) (y .sound) (s .search .ensures _ (shows (y .sound)) (y .propagation)) z)) (i .before .before .before .before .before .before .before .before .before .before .before .before .before .before .if4 .left) in
+    let r = relisted (rooted k) (i .before .before .before .before .before .before .before .before .before .before .list-at .ensures) in
+    let L = i .kept .ensures _ (y .sound .good) (y .sound .rowed .fixed) in
+    works-split (p .0 .tabled .opened) v _ r (i .before .before .before .before .before .before .before .before .before .before .before .before .before .if5 .left) _ (c .before .before .before .before .before .before .before .before .before .before .number .ensures ∙ left-number r _ (search needs) L) _ (c .before .before .before .before .before .before .before .before .before .note3 .ensures) _ (c .before .before .before .before .children .ensures)
 
 pub +children+work-spec : {M : Type 1} → statement M
 +children+work-spec = close μ-children μ-work (λ t. children-lts.spec (calls-children t)
@@ -362,16 +482,29 @@ pub +children+work-spec : {M : Type 1} → statement M
     λ t. work-lts.spec (calls-work t)
     (work-at t)
     work.Post
-    (work-settle-requires t)
+    work-Inv-loop
+    work-μ-loop
+    (work-loop-holds t)
+    (work-search-requires t)
     (work-same-length t)
     (work-returns t)
-    (work-search-requires t)
-    (work-list-form-requires t)
+    (work-act-of-requires t)
+    (work-perform-requires t)
+    (work-add-t45 t)
+    (work-note-requires t)
     (work-same-length-2 t)
-    (work-same-length-3 t)
     (work-returns-2 t)
+    (work-note-requires-2 t)
+    (work-wakes-requires t)
+    (work-loop-less t)
+    (work-loop-again t)
+    (work-search-requires-2 t)
+    (work-list-form-requires t)
+    (work-same-length-3 t)
     (work-same-length-4 t)
     (work-returns-3 t)
+    (work-same-length-5 t)
+    (work-returns-4 t)
     (work-cast-n t)
     (work-mul-list-at t)
     (work-shared-slice-read-list-at t)
@@ -379,9 +512,9 @@ pub +children+work-spec : {M : Type 1} → statement M
     (work-list-at-requires t)
     (work-kept-requires t)
     (work-number-requires t)
-    (work-note-requires t)
-    (work-add-t35 t)
+    (work-note-requires-3 t)
+    (work-add-t60 t)
     (work-children-requires t)
-    (work-same-length-5 t)
     (work-same-length-6 t)
-    (work-returns-4 t)
+    (work-same-length-7 t)
+    (work-returns-5 t)
