@@ -1,5 +1,6 @@
 // The run: a branch is worked until it splits, and each child is worked as a branch.
 use bits::lowest;
+use branch::Asserted;
 use branch::Branch;
 use constraints::list_at;
 use output::Counts;
@@ -55,24 +56,24 @@ fn wakes(words: &[u64], a: Act) -> u64
     }
 }
 
-// Works a branch: propagation until no rule applies; then it is a solved form, or it splits. A conflict closes it.
+// Works a branch as it was asserted: propagation until no rule applies; then it is a solved form, or it splits. A conflict closes it.
 fn work<'a>(
     problem: &'a [u8],
     numbers: &'a [u8],
     offsets: &'a [u16],
     witnesses: &'a [u8],
     words: &'a [u64],
-    b: Branch,
+    next: Asserted,
     run: Run,
     forms: &mut [u8],
     trace: &mut [u8],
 ) -> Counts
-    requires { ⌜ Prepared (now problem) (now numbers) (run .totals) (now offsets) (now witnesses) (now words) × Ready (now problem) (tableBy (run .totals) (now offsets) (now witnesses)) b (run .wake) (run .ripe) × Begun (run .totals .terms) (run .budget) (state (run .counts) (now forms) (now trace)) ⌝ }
-    ensures { λ r. ⌜ Outcome (now (problem .entry)) (tableBy (run .totals) (now (offsets .entry)) (now (witnesses .entry))) (run .budget) b (state (run .counts) (now (forms .entry)) (now (trace .entry))) (state r (now (forms .exit)) (now (trace .exit))) ⌝ }
+    requires { ⌜ Prepared (now problem) (now numbers) (run .totals) (now offsets) (now witnesses) (now words) × Ready (now problem) (tableBy (run .totals) (now offsets) (now witnesses)) (next .branch) (run .wake) (run .ripe) × Begun (run .totals .terms) (run .budget) (state (run .counts) (now forms) (now trace)) ⌝ }
+    ensures { λ r. ⌜ Outcome (now (problem .entry)) (tableBy (run .totals) (now (offsets .entry)) (now (witnesses .entry))) (run .budget) (next .branch) (state (run .counts) (now (forms .entry)) (now (trace .entry))) (state r (now (forms .exit)) (now (trace .exit))) ⌝ }
 {
     let totals = run.totals;
     let budget = run.budget;
-    let mut at = b;
+    let mut at = next.branch;
     let mut counts = run.counts;
     let mut wake = run.wake;
     let mut ripe = run.ripe;
@@ -108,14 +109,14 @@ fn work<'a>(
         let root = found.root;
         let l = found.constraint;
         let act = act_of(&at.parents, l, rule, root, 0);
-        let next = perform(at, act);
-        at = next.branch;
+        let then = perform(at, act);
+        at = then.branch;
         counts = Counts {
             steps: steps + 1,
             forms: listed,
             stop: 0,
         };
-        if next.conflict {
+        if then.conflict {
             note(trace, steps, rule, found.number, root.0, 0);
             return counts;
         }
@@ -167,7 +168,7 @@ fn work<'a>(
         root,
     );
     note(trace, taken, rule, found.number, root, number(left));
-    let next = Run {
+    let after = Run {
         totals: totals,
         budget: budget,
         counts: Counts {
@@ -181,7 +182,7 @@ fn work<'a>(
     let split = Split {
         found: found,
         left: left,
-        run: next,
+        run: after,
     };
     children(
         problem,
@@ -228,7 +229,6 @@ fn children<'a>(
         if turn.taken {
             let act = turn.act;
             let next = perform(b, act);
-            let then = next.branch;
             let more = wakes(words, act);
             let after = Run {
                 totals: totals,
@@ -243,7 +243,7 @@ fn children<'a>(
                 offsets,
                 witnesses,
                 words,
-                then,
+                next,
                 after,
                 forms,
                 trace,
@@ -292,13 +292,17 @@ pub fn solve(
         wake: all,
         ripe: all,
     };
+    let first = Asserted {
+        branch: b,
+        conflict: false,
+    };
     work(
         problem,
         &numbers,
         &offsets,
         &witnesses,
         &words,
-        b,
+        first,
         run,
         forms,
         trace,

@@ -42,7 +42,7 @@ abbrev μ-children : Measures 3 children-kinds.ps ℕ
 μ-children κs a = remaining (a .0 .now) (tableBy (a .1 .1 .1 .1 .1 .1 .0 .run .totals) (a .1 .1 .0 .now) (a .1 .1 .1 .0 .now)) (a .1 .1 .1 .1 .1 .0) * 2
 
 abbrev μ-work : Measures 3 work-kinds.ps ℕ
-μ-work κs a = remaining (a .0 .now) (tableBy (a .1 .1 .1 .1 .1 .1 .0 .totals) (a .1 .1 .0 .now) (a .1 .1 .1 .0 .now)) (a .1 .1 .1 .1 .1 .0) * 2 + 1
+μ-work κs a = remaining (a .0 .now) (tableBy (a .1 .1 .1 .1 .1 .1 .0 .totals) (a .1 .1 .0 .now) (a .1 .1 .1 .0 .now)) (a .1 .1 .1 .1 .1 .0 .branch) * 2 + 1
 
 abbrev children-at : ℕ → In 3 children-kinds.ps
 children-at t = and 3 children-kinds.ps (is 3 children-kinds.ps μ-children t) children.Pre
@@ -126,38 +126,38 @@ children-perform-requires : (t : ℕ) → children-lts.Need-perform-requires (ca
 children-perform-requires t c κs = c .before .child-at .ensures .0 .rooted
 
 children-wakes-requires : (t : ℕ) → children-lts.Need-wakes-requires (calls-children t) (children-at t) children.Post children-Inv-loop children-μ-loop
-children-wakes-requires t c κs = start t (c .before .before .before .before .before .before .before .before .before .before .before) .pre .1 .0 .words-are .long
+children-wakes-requires t c κs = start t (c .before .before .before .before .before .before .before .before .before .before) .pre .1 .0 .words-are .long
 
 children-work-requires : (t : ℕ) → children-lts.Need-work-requires (calls-children t) (children-at t) children.Post children-Inv-loop children-μ-loop
 children-work-requires t c κs =
-    let a = c .before .before .before .before .before .before .before .before in
+    let a = c .before .before .before .before .before .before .before in
     let l = listed t a in
     let q = start t l .pre .1 in
     let s = split-taking (q .0 .tabled .opened) (q .1) (l .list-at .ensures) in
     let v = turn t a .loop .inv .0 in
-    let m = made s v (omega (arith, a .before .before .before .before .loop-test .taken, a .before .before .before .before .before .before .before .slots .ensures)) (a .child-at .ensures .0) (c .before .before .before .before .before .before .before .if1 .taken) (c .before .before .before .before .before .before .perform .ensures) in
-    let x = opens s v (omega (arith, a .before .before .before .before .loop-test .taken, a .before .before .before .before .before .before .before .slots .ensures)) (a .child-at .ensures .0) (c .before .before .before .before .before .before .before .if1 .taken) (c .before .before .before .before .before .before .perform .ensures) in (
+    let m = made s v (omega (arith, a .before .before .before .before .loop-test .taken, a .before .before .before .before .before .before .before .slots .ensures)) (a .child-at .ensures .0) (c .before .before .before .before .before .before .if1 .taken) (c .before .before .before .before .before .perform .ensures) in
+    let x = opens s v (omega (arith, a .before .before .before .before .loop-test .taken, a .before .before .before .before .before .before .before .slots .ensures)) (a .child-at .ensures .0) (c .before .before .before .before .before .before .if1 .taken) (c .before .before .before .before .before .perform .ensures) in (
       omega (arith, child-less s m x, start t l .pre .0),
       (
         q .0,
-        widened (q .0) (q .1 .ready) (a .child-at .result .act) _ (a .child-at .ensures .0 .rooted) (low-act s (a .child-at .result .act) (a .child-at .ensures .1)) (c .before .before .before .before .wakes .ensures) (c .before .before .before .before .before .before .perform .ensures) (child-sound s m x),
+        widened (q .0) (q .1 .ready) (a .child-at .result .act) _ (a .child-at .ensures .0 .rooted) (low-act s (a .child-at .result .act) (a .child-at .ensures .1)) (c .before .before .before .before .wakes .ensures) (c .before .before .before .before .before .perform .ensures) (child-sound s m x),
         v .begun,
       ),
     )
 
 children-same-length : (t : ℕ) → children-lts.Need-same-length (calls-children t) (children-at t) children.Post children-Inv-loop children-μ-loop
-children-same-length t c = c .before .before .before .before .before .forms .given ∙ turn t (c .before .before .before .before .before .before .before .before .before .before .before .before .before .before .before) .loop .inv .2
+children-same-length t c = c .before .before .before .before .before .forms .given ∙ turn t (c .before .before .before .before .before .before .before .before .before .before .before .before .before .before) .loop .inv .2
 
 children-same-length-2 : (t : ℕ) → children-lts.Need-same-length-2 (calls-children t) (children-at t) children.Post children-Inv-loop children-μ-loop
-children-same-length-2 t c = c .before .before .before .trace .given ∙ turn t (c .before .before .before .before .before .before .before .before .before .before .before .before .before .before .before) .loop .inv .3
+children-same-length-2 t c = c .before .before .before .trace .given ∙ turn t (c .before .before .before .before .before .before .before .before .before .before .before .before .before .before) .loop .inv .3
 
 children-returns : (t : ℕ) → children-lts.Need-returns (calls-children t) (children-at t) children.Post children-Inv-loop children-μ-loop
 children-returns t c =
-    let a = c .before .before .before .before .before .before .before .before .before .before .before .before .before .before .before in
+    let a = c .before .before .before .before .before .before .before .before .before .before .before .before .before .before in
     let l = listed t a in
     let q = start t l .pre .1 in
     let s = split-taking (q .0 .tabled .opened) (q .1) (l .list-at .ensures) in
-    worked-stop s (turn t a .loop .inv .0) (omega (arith, a .before .before .before .before .loop-test .taken, a .before .before .before .before .before .before .before .slots .ensures)) (a .child-at .ensures .0) (c .before .before .before .before .before .before .before .before .before .before .before .before .before .before .if1 .taken) (c .before .before .before .before .before .before .before .before .before .before .before .before .before .perform .ensures) _ _ _ (c .before .before .before .before .before .before .work .ensures) (c .if2 .taken)
+    worked-stop s (turn t a .loop .inv .0) (omega (arith, a .before .before .before .before .loop-test .taken, a .before .before .before .before .before .before .before .slots .ensures)) (a .child-at .ensures .0) (c .before .before .before .before .before .before .before .before .before .before .before .before .before .if1 .taken) (c .before .before .before .before .before .before .before .before .before .before .before .before .perform .ensures) _ _ _ (c .before .before .before .before .before .before .work .ensures) (c .if2 .taken)
 
 children-add-k : (t : ℕ) → children-lts.Need-add-k (calls-children t) (children-at t) children.Post children-Inv-loop children-μ-loop
 children-add-k t c = search needs
@@ -174,10 +174,10 @@ children-loop-again t c =
     let v = turn t a .loop .inv in
     ⊎-elim
     (λ w. (
-      rw (w .15, w .16, w .17) (worked-next s (v .0) (omega (arith, a .before .before .before .before .loop-test .taken, a .before .before .before .before .before .before .before .slots .ensures)) (a .child-at .ensures .0) (w .0 .taken) (w .1 .ensures) _ _ _ (w .8 .ensures) (w .14 .left)),
+      rw (w .14, w .15, w .16) (worked-next s (v .0) (omega (arith, a .before .before .before .before .loop-test .taken, a .before .before .before .before .before .before .before .slots .ensures)) (a .child-at .ensures .0) (w .0 .taken) (w .1 .ensures) _ _ _ (w .7 .ensures) (w .13 .left)),
       omega (arith, a .before .before .before .before .loop-test .taken),
-      ap length (w .15) ∙ w .9 .given ∙ v .2,
-      ap length (w .16) ∙ w .11 .given ∙ v .3,
+      ap length (w .14) ∙ w .8 .given ∙ v .2,
+      ap length (w .15) ∙ w .10 .given ∙ v .3,
     ))
     (λ w. (
       rw (w .1, w .2, w .3) (worked-skip s (v .0) (omega (arith, a .before .before .before .before .loop-test .taken, a .before .before .before .before .before .before .before .slots .ensures)) (a .child-at .ensures .0) (w .0 .left)),
@@ -202,7 +202,7 @@ children-returns-2 t c =
 -- ---- the branch's places: the start and the loop's turn before a search; the search before an act; the search for propagation rules before that for splits, and that before the children were kept
 
 abbrev start-of : (t : ℕ) → work-lts.After-search (calls-work t) (work-at t) work.Post work-Inv-loop work-μ-loop → work-lts.Start (calls-work t) (work-at t) work.Post work-Inv-loop work-μ-loop
-start-of t c = c .before .before .before .before .before .before .before .before .before .before .before .before .before .before .before .before
+start-of t c = c .before .before .before .before .before .before .before .before .before .before .before .before .before .before .before .before .before
 
 abbrev turn-of : (t : ℕ) → work-lts.After-search (calls-work t) (work-at t) work.Post work-Inv-loop work-μ-loop → work-lts.At-loop (calls-work t) (work-at t) work.Post work-Inv-loop work-μ-loop
 turn-of t c = c .before .before .before .before .before .before
@@ -217,10 +217,10 @@ abbrev split-at : (t : ℕ) → work-lts.After-kept (calls-work t) (work-at t) w
 split-at t c = c .before .before .before .before .before .before .before .before .before .before .before .before .before .before .before
 
 work-loop-holds : (t : ℕ) → work-lts.Need-loop-holds (calls-work t) (work-at t) work.Post work-Inv-loop work-μ-loop
-work-loop-holds t c = let p = c .before .before .before .before .before .before .before .before .before .pre .1 in (reached-start (record { on = p .2 .on; within = p .2 .fine .within; few = p .2 .fine .few; traced = p .2 .fine .traced }), refl, p .1)
+work-loop-holds t c = let p = c .before .before .before .before .before .before .before .before .before .before .pre .1 in (reached-start (record { on = p .2 .on; within = p .2 .fine .within; few = p .2 .fine .few; traced = p .2 .fine .traced }), refl, p .1)
 
 work-search-requires : (t : ℕ) → work-lts.Need-search-requires (calls-work t) (work-at t) work.Post work-Inv-loop work-μ-loop
-work-search-requires t c κs = let y = c .before .before .before .before .before .loop .inv .2 in (c .before .before .before .before .before .before .before .before .before .before .before .before .before .before .before .pre .1 .0, lent (y .sound), y .wake-low)
+work-search-requires t c κs = let y = c .before .before .before .before .before .loop .inv .2 in (c .before .before .before .before .before .before .before .before .before .before .before .before .before .before .before .before .pre .1 .0, lent (y .sound), y .wake-low)
 
 work-same-length : (t : ℕ) → work-lts.Need-same-length (calls-work t) (work-at t) work.Post work-Inv-loop work-μ-loop
 work-same-length t c = search needs
