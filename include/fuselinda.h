@@ -50,7 +50,7 @@ extern "C" {
 #define FUSELINDA_TRACE_MAX 40000    /* a trace buffer of this length is enough for every budget */
 #define FUSELINDA_FREE 32001         /* in the model, a class without a constant has this + its root */
 #define FUSELINDA_MODEL_MAX 1085     /* a model's bytes: 26 variables and 8 sets of 64 members at most */
-#define FUSELINDA_STACK 1200000      /* bytes of stack that are enough for every call */
+#define FUSELINDA_STACK 1300000      /* bytes of stack that are enough for every call */
 
 /*
  * Runs a problem. Writes the solved forms to `forms` and the steps to `trace`, each from the start; later
