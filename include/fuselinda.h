@@ -1,6 +1,6 @@
 /*
  * Fuselinda: the two calls of the static library, for C99 and C++. `rt staticlib capi` writes it to
- * target/staticlib/libcapi.a. It is for x86-64 and calls nothing but memcpy and memmove.
+ * target/staticlib/libcapi.a. It is for x86-64 and calls nothing but memcpy and memset.
  * examples/tablet.c uses both calls; docs/ANSWER.md says more on what they answer.
  */
 #ifndef FUSELINDA_H
