@@ -12,7 +12,7 @@ use Rattle.calculus.specs.Relations.{Literal, operandOf}
 use Rattle.calculus.specs.Meaning.{Constraint, member, nonmember, same, different, relation, negation, exactly, interval}
 use Rattle.calculus.specs.Branch.{Branch}
 use Rattle.problem.specs.Table.{noConstraint}
-use Rattle.places.specs.Places.{spanOf, InSpan, RuleOf, rowOf, entriesOf, firstAt}
+use Rattle.places.specs.Places.{spanOf, splitSpan, InSpan, RuleOf, rowOf, entriesOf, firstAt}
 use Rattle.rules.specs.Rows.{numberOf}
 
 -- no propagation rule of a constraint applies, or no split
@@ -45,11 +45,12 @@ pairs (negation r A B C w) j = false
 pairs (exactly A es) j = false
 pairs (interval A x y) j = false
 
--- What is prepared once a run, as bits. By constraint, its entries; by literal, at least the constraints that need it; and last, at least those that a merge can wake.
+-- What is prepared once a run, as bits. By constraint, its entries; by literal, at least the constraints that need it; then at least those that a merge can wake; a word that is free; and last, at least those that have a split.
 pub record WordsOf (ls : List Constraint) (words : List ℕ) : Type 0 where
-  pub long : length words ≡ 65
+  pub long : length words ≡ 67
   pub entries : (i : ℕ) → i < length ls → (h : ℕ) → bit (getD words i 0) h ≡ any (λ (e : Term). eqb (e .index) h) (entriesOf (getD ls i noConstraint))
   pub small : (i : ℕ) → i < length ls → getD words i 0 < 2 ^ 64
   pub needing : (i : ℕ) → i < length ls → (j k : ℕ) → RuleOf (getD ls i noConstraint) j → needs (getD ls i noConstraint) j k ≡ true → bit (getD words (48 + k) 0) i ≡ true
   pub paired : (i : ℕ) → i < length ls → (j : ℕ) → RuleOf (getD ls i noConstraint) j → pairs (getD ls i noConstraint) j ≡ true → bit (getD words 64 0) i ≡ true
+  pub splits : (i : ℕ) → i < length ls → (j : ℕ) → InSpan (splitSpan (getD ls i noConstraint)) j → bit (getD words 66 0) i ≡ true
   pub low : (k : ℕ) → k < 17 → (i : ℕ) → bit (getD words (48 + k) 0) i ≡ true → i < length ls

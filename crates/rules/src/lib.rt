@@ -6,7 +6,8 @@ use constraints::Constraint;
 use terms::SetVar;
 use terms::Term;
 ghost use mathlib.Core.Path.{_≡_};
-ghost use Prim.Native.Nat.{_<_};
+ghost use Prim.Native.Nat.{_^_, _<_};
+ghost use lib.Bits.{bitAnd};
 ghost use Rattle.calculus.specs.Lists.{Each};
 ghost use Rattle.branch.specs.Held.{rootOf};
 ghost use Rattle.rules.specs.Spans.{Spanned};
@@ -189,6 +190,14 @@ pub fn root(parents: &[u8], t: Term) -> Term
     Term(find(parents, t.0 as usize) as u8)
 }
 
+// The root of two terms' class, as a bit, if it is one: there rule 4 applies.
+pub fn together(parents: &[u8], t: Term, u: Term) -> u64
+    requires { ⌜ (t .0 < 64) × (u .0 < 64) × Rooted (now parents) ⌝ }
+    ensures { λ r. ⌜ r ≡ bitAnd (2 ^ rootOf (now (parents .entry)) (t .0)) (2 ^ rootOf (now (parents .entry)) (u .0)) ⌝ }
+{
+    bit_at(root(parents, t).0) & bit_at(root(parents, u).0)
+}
+
 // The root of a negation's witness, if its split applies there.
 fn denied(parents: &[u8], rows: &[u64], d: Denial, w: Term) -> u64
     requires { ⌜ (w .0 < 64) × Lent (now parents) (now rows) × LowDenial d ⌝ }
@@ -263,7 +272,7 @@ pub fn fitting(parents: &[u8], rows: &[u64], list: &[u8], word: u64, l: Constrai
         Constraint::Member(t, a) => bit_at(root(parents, t).0) & !of(rows, Literal(a.0)),
         Constraint::Nonmember(t, a) => bit_at(root(parents, t).0) & !of(rows, Literal(8 + a.0)),
         Constraint::Same(t, u) => bit_at(root(parents, t).0) & !bit_at(root(parents, u).0),
-        Constraint::Different(t, u) => bit_at(root(parents, t).0) & bit_at(root(parents, u).0),
+        Constraint::Different(t, u) => together(parents, t, u),
         Constraint::Related(_, a, b, c) => {
             if rule == 12 {
                 return divided(rows, split_of(a, b, c));

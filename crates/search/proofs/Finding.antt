@@ -38,8 +38,9 @@ use Rattle.rules.proofs.FitLaws.{entries-below}
 use Rattle.quiet.specs.Quiet.{Idle, Quiet}
 use Rattle.search.specs.declared.Found.{Found}
 use Rattle.search.specs.First.{Prepared, nowhere, Finds}
-use Rattle.search.proofs.Order.{position-hit, position-miss, positions-done, first-offer, no-place, place-at}
-use Rattle.search.proofs.Turns.{Turn, turn-of, entries-by}
+use Rattle.search.proofs.Order.{position-hit, position-miss, positions-done, positions-from, first-offer, no-place, place-at}
+use Rattle.search.specs.Turns.{Turn}
+use Rattle.search.proofs.Turns.{turn-of, entries-by}
 
 -- ---- rules of a constraint
 
@@ -227,9 +228,9 @@ module _ {split : Bool} {n : ℕ} {bs ps rows : List ℕ} where
         pub no-roots : fit ≡ 0 → {s : Found} → s ≡ r → AtRule split n bs ps rows i (j + 1) end es bits l s
         no-roots z e = rule-over e (λ b y. map-eq-none-iff _ _ .0 (fits b y ∙ first-fails (bit fit) (upFrom 0 n) (λ k. no-bit fit k z)))
 
-        -- any other is looked at from root 0 on
-        pub roots-start : j < end → AtRoot split n bs ps rows i j end es bits l fit 0 r
-        roots-start h = let z : n ≡ n - 0 = omega arith in record { rule = a; in-span = h; left = λ b y. fits b y ∙ ap (λ (k : ℕ). first (bit fit) (upFrom 0 k)) z }
+        -- any other is looked at from its lowest bit on
+        pub roots-start : j < end → AtRoot split n bs ps rows i j end es bits l fit (trailingZeros 64 fit) r
+        roots-start h = record { rule = a; in-span = h; left = λ b y. fits b y ∙ positions-from (bit fit) n (trailingZeros 64 fit) (below-lowest 64 fit) }
 
     module _ {fit h : ℕ} (a : AtRoot split n bs ps rows i j end es bits l fit h r) where
       -- past the last root

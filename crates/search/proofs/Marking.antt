@@ -27,17 +27,18 @@ use Rattle.constraints.specs.Decoded.{Unpacked}
 use Rattle.rules.specs.Words.{EntryBits}
 use Rattle.quiet.specs.Quiet.{WordsOf}
 use Rattle.search.specs.Marks.{NeedsOf, Marked}
-use Rattle.search.proofs.Turns.{Turn, entries-by}
+use Rattle.search.specs.Turns.{Turn}
+use Rattle.search.proofs.Turns.{entries-by}
 
 -- ---- marking
 
 -- what marking the literals that are left makes of the words now, marking all makes of the words before
 pub record Marking (all i : ℕ) (before words : List ℕ) (left : ℕ) : Type 0 where
-  pub small : left < 2 ^ 17
-  pub long : length words ≡ 65
+  pub small : left < 2 ^ 19
+  pub long : length words ≡ 67
   pub rest : (after : List ℕ) → Marked left i words after → Marked all i before after
 
-pub mark-start : (i : ℕ) {all : ℕ} {words : List ℕ} → all < 2 ^ 17 → length words ≡ 65 → Marking all i words words all
+pub mark-start : (i : ℕ) {all : ℕ} {words : List ℕ} → all < 2 ^ 19 → length words ≡ 67 → Marking all i words words all
 mark-start i h n = record { small = h; long = n; rest = λ after r. r }
 
 module _ {all i left : ℕ} {before words : List ℕ} (g : Marking all i before words left) where
@@ -52,8 +53,8 @@ module _ {all i left : ℕ} {before words : List ℕ} (g : Marking all i before 
     wide : left < 2 ^ 64
     wide = omega (arith, g .small)
 
-    pub low-lt : low < 17
-    low-lt = bit-low 17 left low (g .small) (lowest-set 64 left wide some)
+    pub low-lt : low < 19
+    low-lt = bit-low 19 left low (g .small) (lowest-set 64 left wide some)
 
     pub mark-next : {one : ℕ} → one ≡ 2 ^ i → Marking all i before (set words (48 + low) (bitOr (getD words (48 + low) 0) one)) (bitAnd left (left - 1))
     mark-next {one} p = record { small = omega (arith, g .small, less-lt left some); long = length-set words (48 + low) word ∙ g .long; rest = λ after r. g .rest after (both after r) }
@@ -109,14 +110,14 @@ abbrev FilledAt : List ℕ → List ℕ → ℕ → Type 0
 FilledAt bs words k = ((h : ℕ) → bit (getD words k 0) h ≡ any (λ (e : Term). eqb (e .index) h) (entriesOf (constraintOf bs k))) × (getD words k 0 < 2 ^ 64)
 
 pub record Filled (bs words : List ℕ) (i : ℕ) : Type 0 where
-  pub long : length words ≡ 65
+  pub long : length words ≡ 67
   pub entries : (k : ℕ) → k < i → FilledAt bs words k
   pub needed : (k : ℕ) → k < i → (w : ℕ) × NeedsOf (constraintOf bs k) w × ((h : ℕ) → bit w h ≡ true → bit (getD words (48 + h) 0) k ≡ true)
   pub low : (h k : ℕ) → bit (getD words (48 + h) 0) k ≡ true → k < i
   pub in-problem : i ≤ length (constraintsOf (read bs))
 
-pub fill-start : (bs : List ℕ) → Filled bs (replicate 65 0) 0
-fill-start bs = record { long = refl; entries = λ k l. absurd (omega arith); needed = λ k l. absurd (omega arith); low = λ h k e. clash e (ap (λ (x : ℕ). bit x k) (getD-replicate 65 (48 + h)) ∙ bit-zero k); in-problem = omega arith }
+pub fill-start : (bs : List ℕ) → Filled bs (replicate 67 0) 0
+fill-start bs = record { long = refl; entries = λ k l. absurd (omega arith); needed = λ k l. absurd (omega arith); low = λ h k e. clash e (ap (λ (x : ℕ). bit x k) (getD-replicate 67 (48 + h)) ∙ bit-zero k); in-problem = omega arith }
   where
     getD-replicate : (n j : ℕ) → _≡_ {A = ℕ} (getD (replicate n 0) j 0) 0
     getD-replicate zero j = refl
@@ -157,5 +158,6 @@ fill-end {bs} {i = i} {t = t} {offsets} {witnesses} f d e =
       small = λ k l. f .entries k (omega arith) .1;
       needing = λ k l j h r q. let v = f .needed k (omega arith) in v .2 h (v .1 .rules j r .needing h q);
       paired = λ k l j r q. let v = f .needed k (omega arith) in v .2 16 (v .1 .rules j r .paired q);
+      splits = λ k l j v. let w = f .needed k (omega arith) in w .2 18 (w .1 .splits j v);
       low = λ h _ k q. omega (arith, f .low h k q, f .in-problem);
     }

@@ -26,6 +26,7 @@ use Rattle.places.specs.Places.{spanOf, propagationSpan, splitSpan, InSpan, Rul
 use Rattle.terms.specs.declared.SetVar.{SetVar as CodedSet}
 use Rattle.terms.specs.declared.Term.{Term as CodedTerm}
 use Rattle.constraints.specs.declared.Relation.{Relation as CodedRelation}
+use Rattle.constraints.specs.declared.Negation.{Negation as CodedNegation}
 use Rattle.constraints.specs.declared.Constraint.{Constraint as Coded}
 use Rattle.constraints.specs.declared.Constraint.the-variants.{Member, Nonmember, Same, Different, Related, Negated, Exactly, Interval}
 use Rattle.constraints.specs.Decoded.{relationOf, decoded}
@@ -158,15 +159,19 @@ pub record Before (l : Constraint) (j word : ℕ) : Type 0 where
   pub small : word < 2 ^ 17
 
 -- a list or an interval of set A
-list-needs : {l : Constraint} (A : ℕ) → A < 8 → ((j k : ℕ) → needs l j k ≡ (eqb j 20 && eqb A k)) → ((j : ℕ) → pairs l j ≡ false) → NeedsOf l (2 ^ A)
+list-needs : {l : Constraint} (A : ℕ) → A < 8 → ((j k : ℕ) → needs l j k ≡ (eqb j 20 && eqb A k)) → ((j : ℕ) → pairs l j ≡ false) → NeedsOf l (bitOr (2 ^ A) (2 ^ 18))
 list-needs A h f g = record {
-  rules = λ j r. record { needing = λ k z. subst (λ (m : ℕ). bit (2 ^ A) m ≡ true) (eqb-true A k (and-r (eqb j 20) (eqb A k) (sym (f j k) ∙ z))) (bit-own A); paired = λ z. clash z (g j) };
-  small = pow-small A (omega arith);
+  rules = λ j r. record { needing = λ k z. subst (λ (m : ℕ). bit (bitOr (2 ^ A) (2 ^ 18)) m ≡ true) (eqb-true A k (and-r (eqb j 20) (eqb A k) (sym (f j k) ∙ z))) (bit-left (2 ^ A) (2 ^ 18) A (bit-own A)); paired = λ z. clash z (g j) };
+  splits = λ j v. bit-right (2 ^ A) (2 ^ 18) 18 (bit-own 18);
+  small = or-lt 19 (2 ^ A) (2 ^ 18) (omega (arith, pow-small A (omega arith))) (omega arith);
 }
 
--- a constraint whose rules need no literal
-nothing-needed : {l : Constraint} → ((j k : ℕ) → needs l j k ≡ false) → ((j : ℕ) → pairs l j ≡ false) → NeedsOf l 0
-nothing-needed f g = record { rules = λ j r. record { needing = λ k z. clash z (f j k); paired = λ z. clash z (g j) }; small = omega arith }
+-- a constraint whose rules need no literal: without a split, and with one
+nothing-needed : {l : Constraint} (w : ℕ) → w < 2 ^ 19 → ((j k : ℕ) → needs l j k ≡ false) → ((j : ℕ) → pairs l j ≡ false) → ((j : ℕ) → InSpan (splitSpan l) j → bit w 18 ≡ true) → NeedsOf l w
+nothing-needed w h f g s = record { rules = λ j r. record { needing = λ k z. clash z (f j k); paired = λ z. clash z (g j) }; splits = s; small = h }
+
+unsplit : {P : Type 0} (j : ℕ) → InSpan (0, 0) j → P
+unsplit j v = absurd (omega (arith, v .1))
 
 -- constraint i as it is decoded
 module _ {bs : List ℕ} {i at : ℕ} (l : Coded) (d : Stands bs i at × (constraintOf bs i ≡ decoded (listed (constraintOf bs i)) l)) where
@@ -179,14 +184,17 @@ module _ {bs : List ℕ} {i at : ℕ} (l : Coded) (d : Stands bs i at × (constr
   pub range : {m : Coded} → l ≡ m → ConstraintIn 64 8 (decoded (listed own) m)
   range e = subst (ConstraintIn 64 8) (matched e) (in-range bs i at (d .0))
 
-  pub different-needs : {t u : CodedTerm} → l ≡ Different t u → {w : ℕ} → w ≡ 2 ^ 16 → NeedsOf own w
-  different-needs e q = rw (matched e, q) (record { rules = λ j r. record { needing = λ k z. absurd (false≢true z); paired = λ z. bit-own 16 }; small = omega arith })
+  pub different-needs : {t u : CodedTerm} → l ≡ Different t u → {v w : ℕ} → v ≡ 2 ^ 16 → w ≡ 2 ^ 17 → NeedsOf own (bitOr v w)
+  different-needs e p q = rw (matched e, p, q) (record { rules = λ j r. record { needing = λ k z. absurd (false≢true z); paired = λ z. bit-left (2 ^ 16) (2 ^ 17) 16 (bit-own 16) }; splits = unsplit; small = or-lt 19 (2 ^ 16) (2 ^ 17) (omega arith) (omega arith) })
 
-  pub exactly-needs : {A : CodedSet} → l ≡ Exactly A → {w : ℕ} → w ≡ 2 ^ A .0 → NeedsOf own w
-  exactly-needs {A} e q = rw (matched e, q) (list-needs (A .0) (range e .0) (λ j k. refl) (λ j. refl))
+  pub negated-needs : {k : CodedNegation} {A B C : CodedSet} {t : CodedTerm} → l ≡ Negated k A B C t → {w : ℕ} → w ≡ 2 ^ 18 → NeedsOf own w
+  negated-needs e q = rw (matched e, q) (nothing-needed (2 ^ 18) (omega arith) (λ j k. refl) (λ j. refl) (λ j v. bit-own 18))
 
-  pub interval-needs : {A : CodedSet} {t u : CodedTerm} → l ≡ Interval A t u → {w : ℕ} → w ≡ 2 ^ A .0 → NeedsOf own w
-  interval-needs {A} e q = rw (matched e, q) (list-needs (A .0) (range e .0) (λ j k. refl) (λ j. refl))
+  pub exactly-needs : {A : CodedSet} → l ≡ Exactly A → {v w : ℕ} → v ≡ 2 ^ A .0 → w ≡ 2 ^ 18 → NeedsOf own (bitOr v w)
+  exactly-needs {A} e p q = rw (matched e, p, q) (list-needs (A .0) (range e .0) (λ j k. refl) (λ j. refl))
+
+  pub interval-needs : {A : CodedSet} {t u : CodedTerm} → l ≡ Interval A t u → {v w : ℕ} → v ≡ 2 ^ A .0 → w ≡ 2 ^ 18 → NeedsOf own (bitOr v w)
+  interval-needs {A} e p q = rw (matched e, p, q) (list-needs (A .0) (range e .0) (λ j k. refl) (λ j. refl))
 
   module _ {k : CodedRelation} {A B C : CodedSet} (e : l ≡ Related k A B C) where
     abbrev related : Constraint
@@ -220,41 +228,44 @@ module _ {bs : List ℕ} {i at : ℕ} (l : Coded) (d : Stands bs i at × (constr
       past : Before related j word
       past = rw (matched e) at f
 
-      abbrev needs-with : (w : ℕ) → w < 2 ^ 17 → ((x : ℕ) → bit word x ≡ true → bit w x ≡ true) → ((m : ℕ) → InSpan (splitSpan related) m → RuleNeeds related m w) → NeedsOf own w
-      needs-with w s u z = rw (matched e) (record { rules = λ m r. go m r; small = s })
+      abbrev needs-with : (w : ℕ) → w < 2 ^ 19 → ((x : ℕ) → bit word x ≡ true → bit w x ≡ true) → ((m : ℕ) → InSpan (splitSpan related) m → RuleNeeds related m w × (bit w 18 ≡ true)) → NeedsOf own w
+      needs-with w s u z = rw (matched e) (record { rules = λ m r. go m r; splits = λ m v. z m v .1; small = s })
         where
           go : (m : ℕ) → RuleOf related m → RuleNeeds related m w
           go m (inl v) = wider (past .rules m v (omega (arith, v .1, spans false h .1))) w u
-          go m (inr v) = z m v
+          go m (inr v) = z m v .0
 
       pub no-split : to ≤ from → NeedsOf own word
-      no-split n = let q = spans true g in needs-with word (f .small) (λ x y. y) (λ m v. absurd (omega (arith, q .0, q .1, v .0, v .1)))
+      no-split n = let q = spans true g in needs-with word (omega (arith, f .small)) (λ x y. y) (λ m v. absurd (omega (arith, q .0, q .1, v .0, v .1)))
 
-      pub with-split : {x : Split} → x ≡ parted (operandOf (A .0) (B .0) (C .0)) (numbered 12) → {w : ℕ} → w ≡ 2 ^ x .0 .0 → NeedsOf own (bitOr word w)
-      with-split {x} p {w} q = needs-with (bitOr word w) (or-lt 17 word w (f .small) (rw c (pow-small (C .0) (omega (arith, range e .2))))) (bit-left word w) there
+      pub with-split : {x : Split} → x ≡ parted (operandOf (A .0) (B .0) (C .0)) (numbered 12) → {v w : ℕ} → v ≡ 2 ^ x .0 .0 → w ≡ 2 ^ 18 → NeedsOf own (bitOr (bitOr word v) w)
+      with-split {x} p {v} {w} q o = needs-with all (or-lt 19 (bitOr word v) w (or-lt 19 word v (omega (arith, f .small)) (rw c (omega (arith, pow-small (C .0) (omega (arith, range e .2)))))) (rw o (omega arith))) (λ y z. bit-left (bitOr word v) w y (bit-left word v y z)) (λ m s. (there m s, bit-right (bitOr word v) w 18 (rw o (bit-own 18))))
         where
-          c : w ≡ 2 ^ C .0
+          all : ℕ
+          all = bitOr (bitOr word v) w
+
+          c : v ≡ 2 ^ C .0
           c = q ∙ ap (λ (y : Split). 2 ^ y .0 .0) p
 
-          set : bit (bitOr word w) (C .0) ≡ true
-          set = bit-right word w (C .0) (rw c (bit-own (C .0)))
+          set : bit all (C .0) ≡ true
+          set = bit-left (bitOr word v) w (C .0) (bit-right word v (C .0) (rw c (bit-own (C .0))))
 
-          there : (m : ℕ) → InSpan (splitSpan related) m → RuleNeeds related m (bitOr word w)
-          there m v =
-              let z : m ≡ 12 = rule-12 (relationOf k) (setVar (A .0)) (setVar (B .0)) (setVar (C .0)) m .1 v in
-              let r : rowOf (relationOf k) 12 ≡ numbered 12 = rw z at (row-of (relationOf k) (setVar (A .0)) (setVar (B .0)) (setVar (C .0)) m (inr v) .is) in
-              rw z (by-row (relationOf k) (A .0) (B .0) (C .0) 12 (bitOr word w) r set set (λ y. absurd (false≢true y)))
+          there : (m : ℕ) → InSpan (splitSpan related) m → RuleNeeds related m all
+          there m s =
+              let z : m ≡ 12 = rule-12 (relationOf k) (setVar (A .0)) (setVar (B .0)) (setVar (C .0)) m .1 s in
+              let r : rowOf (relationOf k) 12 ≡ numbered 12 = rw z at (row-of (relationOf k) (setVar (A .0)) (setVar (B .0)) (setVar (C .0)) m (inr s) .is) in
+              rw z (by-row (relationOf k) (A .0) (B .0) (C .0) 12 all r set set (λ y. absurd (false≢true y)))
 
-  -- any other constraint has no rule that needs a literal
-  pub others-need : OneOf (0 ∷ 1 ∷ 2 ∷ 5 ∷ []) (tagOf the-type l) → NeedsOf own 0
+  -- any other constraint has no split, and no rule that needs a literal
+  pub others-need : OneOf (0 ∷ 1 ∷ 2 ∷ []) (tagOf the-type l) → NeedsOf own 0
   others-need o = subst (λ (x : Constraint). NeedsOf x 0) (sym (d .1)) (go l o (listed own))
     where
-      go : (m : Coded) → OneOf (0 ∷ 1 ∷ 2 ∷ 5 ∷ []) (tagOf the-type m) → (es : List Term) → NeedsOf (decoded es m) 0
-      go (Member t A) o es = nothing-needed (λ j k. refl) (λ j. refl)
-      go (Nonmember t A) o es = nothing-needed (λ j k. refl) (λ j. refl)
-      go (Same t u) o es = nothing-needed (λ j k. refl) (λ j. refl)
-      go (Different t u) o es = absurd (miss (0 ∷ 1 ∷ 2 ∷ 5 ∷ []) 3 tt o)
-      go (Related k A B C) o es = absurd (miss (0 ∷ 1 ∷ 2 ∷ 5 ∷ []) 4 tt o)
-      go (Negated k A B C w) o es = nothing-needed (λ j k. refl) (λ j. refl)
-      go (Exactly A) o es = absurd (miss (0 ∷ 1 ∷ 2 ∷ 5 ∷ []) 6 tt o)
-      go (Interval A t u) o es = absurd (miss (0 ∷ 1 ∷ 2 ∷ 5 ∷ []) 7 tt o)
+      go : (m : Coded) → OneOf (0 ∷ 1 ∷ 2 ∷ []) (tagOf the-type m) → (es : List Term) → NeedsOf (decoded es m) 0
+      go (Member t A) o es = nothing-needed 0 (omega arith) (λ j k. refl) (λ j. refl) unsplit
+      go (Nonmember t A) o es = nothing-needed 0 (omega arith) (λ j k. refl) (λ j. refl) unsplit
+      go (Same t u) o es = nothing-needed 0 (omega arith) (λ j k. refl) (λ j. refl) unsplit
+      go (Different t u) o es = absurd (miss (0 ∷ 1 ∷ 2 ∷ []) 3 tt o)
+      go (Related k A B C) o es = absurd (miss (0 ∷ 1 ∷ 2 ∷ []) 4 tt o)
+      go (Negated k A B C w) o es = absurd (miss (0 ∷ 1 ∷ 2 ∷ []) 5 tt o)
+      go (Exactly A) o es = absurd (miss (0 ∷ 1 ∷ 2 ∷ []) 6 tt o)
+      go (Interval A t u) o es = absurd (miss (0 ∷ 1 ∷ 2 ∷ []) 7 tt o)

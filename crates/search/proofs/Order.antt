@@ -1,18 +1,23 @@
 -- The order of the search. The first place is at the first rule that applies of the first constraint that is not idle; if all are idle, there is none.
-use mathlib.Core.Path.{_≡_, refl, ap, ap₂, _∙_}
+use mathlib.Core.Path.{_≡_, refl, sym, ap, ap₂, _∙_}
+use mathlib.Core.Logic.{_⊎_, inl, inr}
 use mathlib.Core.Bool.{Bool, true, false}
 use mathlib.Core.Option.{Option, none, some, Option·map}
 use mathlib.Core.List.{List, [], _∷_, _++_, map}
 use Prim.Native.Nat.{ℕ, zero, suc, _+_, _-_, _<_, _≤_}
 use native.Mathlib.Omega.{arith}
 use native.Mathlib.Decide.{ℕ-discrete}
+use native.Mathlib.Numerals.{add-one}
 use lib.ListN.{length, getD}
+use lib.Dec.{ltb}
+use borrow.Author.Tests.{ltb-true, ltb-false}
 use Rattle.calculus.specs.Lists.{upFrom, first, gather}
 use Rattle.calculus.specs.Terms.{Term}
 use Rattle.calculus.specs.Relations.{applies}
 use Rattle.calculus.specs.Meaning.{Constraint}
 use Rattle.calculus.specs.Branch.{Branch, known}
 use Rattle.calculus.specs.Search.{Move, Candidate, candidates}
+use Rattle.calculus.proofs.Bools.{test}
 use Rattle.calculus.proofs.SearchLaws.{first-stop, first-next, first-left, first-none-app}
 use Rattle.questions.proofs.Constants.{up-more, up-done}
 use Rattle.problem.specs.Table.{noConstraint}
@@ -33,6 +38,15 @@ module _ (p : ℕ → Bool) (k n : ℕ) where
 
   pub positions-done : n ≤ k → first p (upFrom k (n - k)) ≡ none
   positions-done l = ap (first p) (up-done k n l)
+
+-- none before position k
+pub positions-from : (p : ℕ → Bool) (n k : ℕ) → ((m : ℕ) → m < k → p m ≡ false) → first p (upFrom 0 n) ≡ first p (upFrom k (n - k))
+positions-from p n zero f = let z : n ≡ n - 0 = omega arith in ap (λ (m : ℕ). first p (upFrom 0 m)) z
+positions-from p n (suc k) f = positions-from p n k (λ m l. f m (omega arith)) ∙ go (test (ltb k n))
+  where
+    go : (ltb k n ≡ true) ⊎ (ltb k n ≡ false) → first p (upFrom k (n - k)) ≡ first p (upFrom (suc k) (n - suc k))
+    go (inl l) = position-miss p k n (ltb-true k n l) (f k (omega arith)) ∙ ap (λ (m : ℕ). first p (upFrom m (n - m))) (add-one k)
+    go (inr l) = positions-done p k n (ltb-false k n l) ∙ sym (positions-done p (suc k) n (omega (arith, ltb-false k n l)))
 
 -- ---- m lists in a row, from list a on
 

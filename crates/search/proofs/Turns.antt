@@ -1,7 +1,7 @@
 -- The turn of constraint i, in `prepare` and in `search`: where it stands, and its entries.
 use mathlib.Core.Path.{_≡_, ap, _∙_}
 use mathlib.Core.List.{List}
-use Prim.Native.Nat.{ℕ, _+_, _<_, _≤_}
+use Prim.Native.Nat.{ℕ, _<_}
 use native.Mathlib.Omega.{arith}
 use lib.ListN.{length, getD}
 use lib.Dec.{eqb}
@@ -17,17 +17,7 @@ use Rattle.places.specs.Places.{entriesOf}
 use Rattle.constraints.specs.declared.Constraint.{Constraint}
 use Rattle.constraints.specs.Decoded.{Unpacked}
 use Rattle.constraints.proofs.Decoding.{stands-there, two-operands}
-
--- it stands at its offset, and what is read of it is there
-pub record Turn (bs offsets witnesses : List ℕ) (i : ℕ) : Type 0 where
-  pub small : i < 48
-  pub stands : Stands bs i (getD offsets i 0)
-  pub witness : term (getD witnesses i 0) ≡ witnessOf bs i
-  pub in-problem : i < length (constraintsOf (read bs))
-  pub in-bytes : getD offsets i 0 + 2 < length bs
-  pub short : length bs ≤ 4096
-  pub offsets-long : length offsets ≡ 48
-  pub witnesses-long : length witnesses ≡ 48
+use Rattle.search.specs.Turns.{Turn}
 
 pub turn-of : {bs : List ℕ} {t : Totals} {offsets witnesses : List ℕ} {i : ℕ} → Tabled bs t offsets witnesses → i < t .constraints → Turn bs offsets witnesses i
 turn-of {bs} {t} {offsets} {witnesses} {i} d l =

@@ -7,7 +7,7 @@ use lib.ListN.{length, getD}
 use lib.Dec.{eqb}
 use Rattle.calculus.specs.Lists.{bit}
 use Rattle.calculus.specs.Meaning.{Constraint}
-use Rattle.places.specs.Places.{RuleOf}
+use Rattle.places.specs.Places.{splitSpan, InSpan, RuleOf}
 use Rattle.quiet.specs.Quiet.{needs, pairs}
 
 -- A word has each literal that rule j of a constraint needs, and bit 16 if it needs two facts of one class.
@@ -15,10 +15,11 @@ pub record RuleNeeds (l : Constraint) (j word : ℕ) : Type 0 where
   pub needing : (k : ℕ) → needs l j k ≡ true → bit word k ≡ true
   pub paired : pairs l j ≡ true → bit word 16 ≡ true
 
--- The same for all its rules.
+-- The same for all its rules, and bit 18 if it has a split.
 pub record NeedsOf (l : Constraint) (word : ℕ) : Type 0 where
   pub rules : (j : ℕ) → RuleOf l j → RuleNeeds l j word
-  pub small : word < 2 ^ 17
+  pub splits : (j : ℕ) → InSpan (splitSpan l) j → bit word 18 ≡ true
+  pub small : word < 2 ^ 19
 
 -- Bit i is set in the words of these literals, which stand from 48 on, and nothing else changes.
 pub record Marked (literals i : ℕ) (before after : List ℕ) : Type 0 where

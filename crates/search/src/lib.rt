@@ -9,6 +9,7 @@ use rules::fitting;
 use rules::row_of;
 use rules::span_of;
 use rules::split_of;
+use rules::together;
 use terms::SetVar;
 use terms::Term;
 ghost use mathlib.Core.Path.{_≡_};
@@ -26,9 +27,10 @@ ghost use Rattle.branch.specs.Rows.{literals};
 ghost use Rattle.constraints.specs.Decoded.{decoded};
 ghost use Rattle.places.specs.Places.{RuleOf};
 ghost use Rattle.rules.specs.Rows.{HasRow};
-ghost use Rattle.rules.specs.Words.{Lent, Shown};
+ghost use Rattle.rules.specs.Words.{Rooted, Lent, Shown};
 ghost use Rattle.quiet.specs.Quiet.{Quiet, WordsOf};
 ghost use Rattle.search.specs.Marks.{RuleNeeds, NeedsOf, Marked};
+ghost use Rattle.search.specs.Turns.{Turn, Narrows};
 ghost use Rattle.search.specs.First.{Prepared, Finds};
 
 // What a search looks for, propagation rules or splits, and among which constraints, as bits.
@@ -61,13 +63,13 @@ fn premises(rule: u8, a: SetVar, b: SetVar, c: SetVar) -> u64
     word | bit_at(16)
 }
 
-// The literals, as bits, that the rules of constraint i need. Bit 16 says that one of them needs two facts of a class.
+// The literals, as bits, that the rules of constraint i need. Bit 16 says that one of them needs two facts of a class, bit 17 that it is of kind 4, and bit 18 that it has a split.
 fn needed(problem: &[u8], i: usize, at: usize, l: Constraint) -> u64
     requires { ⌜ Stands (now problem) i at × (constraintOf (now problem) i ≡ decoded (listed (constraintOf (now problem) i)) l) ⌝ }
     ensures { λ r. ⌜ NeedsOf (constraintOf (now (problem .entry)) i) r ⌝ }
 {
     match l {
-        Constraint::Different(_, _) => bit_at(16),
+        Constraint::Different(_, _) => bit_at(16) | bit_at(17),
         Constraint::Related(_, a, b, c) => {
             let kind = problem[at];
             let span = span_of(kind, false);
@@ -78,19 +80,20 @@ fn needed(problem: &[u8], i: usize, at: usize, l: Constraint) -> u64
             }
             let rest = span_of(kind, true);
             if rest.first < rest.end {
-                return found | bit_at(split_of(a, b, c).0.0);
+                return found | bit_at(split_of(a, b, c).0.0) | bit_at(18);
             }
             found
         }
-        Constraint::Exactly(a) => bit_at(a.0),
-        Constraint::Interval(a, _, _) => bit_at(a.0),
+        Constraint::Negated(_, _, _, _, _) => bit_at(18),
+        Constraint::Exactly(a) => bit_at(a.0) | bit_at(18),
+        Constraint::Interval(a, _, _) => bit_at(a.0) | bit_at(18),
         _ => 0,
     }
 }
 
-// Bit i is set in the words of some literals, which stand from word 48 on.
-fn mark(words: &mut [u64; 65], literals: u64, i: u8)
-    requires { ⌜ (length (now words) ≡ 65) × (literals < 2 ^ 17) × (i < 64) ⌝ }
+// Bit i is set in the words of some literals, which stand from word 48 on, and in those after them.
+fn mark(words: &mut [u64; 67], literals: u64, i: u8)
+    requires { ⌜ (length (now words) ≡ 67) × (literals < 2 ^ 19) × (i < 64) ⌝ }
     ensures { λ _. ⌜ Marked literals i (now (words .entry)) (now (words .exit)) ⌝ }
 {
     let one = bit_at(i);
@@ -102,18 +105,18 @@ fn mark(words: &mut [u64; 65], literals: u64, i: u8)
     }
 }
 
-// What is looked up in a run, as bits. By constraint its entries; by literal at least the constraints that need it; and last at least those that a merge can wake. The numbers are 0 to 63.
+// What is looked up in a run, as bits. By constraint its entries; by literal at least the constraints that need it; at least those that a merge can wake; those of kind 4; and last at least those with a split. The numbers are 0 to 63.
 pub fn prepare<'a>(
     problem: &'a [u8],
     numbers: &'a [u8],
     totals: Totals,
     offsets: &'a [u16],
     witnesses: &'a [u8],
-) -> [u64; 65]
+) -> [u64; 67]
     requires { ⌜ Tabled (now problem) totals (now offsets) (now witnesses) × (now numbers ≡ upFrom 0 64) ⌝ }
     ensures { λ r. ⌜ WordsOf (constraintsOf (read (now (problem .entry)))) r ⌝ }
 {
-    let mut words = [0u64; 65];
+    let mut words = [0u64; 67];
     let count = totals.constraints;
     for i in 0..count {
         let n = i as usize;
@@ -129,7 +132,7 @@ pub fn prepare<'a>(
 
 // The constraints, as bits, that need a literal of the masks.
 pub fn woken(words: &[u64], ins: u8, outs: u8) -> u64
-    requires { ⌜ length (now words) ≡ 65 ⌝ }
+    requires { ⌜ length (now words) ≡ 67 ⌝ }
     ensures { λ r. ⌜ ((i : ℕ) → bit r i ≡ any (λ k. bit (literals ins outs) k && bit (getD (now (words .entry)) (48 + k) 0) i) (upFrom 0 16)) ⌝ }
 {
     let mut found = 0u64;
@@ -140,6 +143,36 @@ pub fn woken(words: &[u64], ins: u8, outs: u8) -> u64
         left = left & (left - 1);
     }
     found
+}
+
+// The constraints of a scope, as bits, without some that have no place: for splits those that have none, else those of kind 4 whose terms are not of one class.
+fn looked_at<'a>(
+    problem: &'a [u8],
+    offsets: &'a [u16],
+    witnesses: &'a [u8],
+    words: &'a [u64],
+    parents: &'a [u8],
+    scope: Scope,
+) -> u64
+    requires { ⌜ WordsOf (constraintsOf (read (now problem))) (now words) × Rooted (now parents) × ((i : ℕ) → bit (scope .among) i ≡ true → Turn (now problem) (now offsets) (now witnesses) i) ⌝ }
+    ensures { λ r. ⌜ Narrows (scope .split) (now (problem .entry)) (now (parents .entry)) (scope .among) r ⌝ }
+{
+    let mut kept = scope.among;
+    if scope.split {
+        return kept & words[66];
+    }
+    let mut left = kept & words[65];
+    while left != 0 {
+        let n = u64::trailing_zeros(left) as usize;
+        let l = decode_at(problem, n, offsets[n] as usize, witnesses[n]);
+        if let Constraint::Different(t, u) = l {
+            if together(parents, t, u) == 0 {
+                kept = kept & !bit_at(n as u8);
+            }
+        }
+        left = left & (left - 1);
+    }
+    kept
 }
 
 // The first place where a propagation rule applies, or where a split does. No constraint that the scope leaves out has one. The numbers are 0 to 63, and `words` is what `prepare` answers.
@@ -166,7 +199,7 @@ pub fn search<'a>(
         constraint: Constraint::Same(Term(0), Term(0)),
         left: 0,
     };
-    let mut left = scope.among;
+    let mut left = looked_at(problem, offsets, witnesses, words, parents, scope);
     'search: while left != 0 {
         let n = u64::trailing_zeros(left) as usize;
         let at = offsets[n] as usize;
@@ -179,7 +212,8 @@ pub fn search<'a>(
             for j in span.first..end {
                 let fit = fitting(parents, rows, entries, bits, l, j);
                 if fit != 0 {
-                    for h in 0..terms {
+                    let low = u64::trailing_zeros(fit) as u8;
+                    for h in low..terms {
                         if (fit >> h) % 2 == 1 {
                             let number = n as u8;
                             found = Found {

@@ -5,7 +5,7 @@ use mathlib.Core.Path.{_∙_, ap}
 use borrow.Author.Needs.{needs}
 use Rattle.constraints.proofs.Decoding.{two-operands}
 use Rattle.problem.specs.Table.{constraintOf}
-use Rattle.search.proofs.Needing.{split-low, range, Before, different-needs, exactly-needs, interval-needs, others-need, premises-asked, needs-start, needs-next, no-split, with-split}
+use Rattle.search.proofs.Needing.{split-low, range, Before, different-needs, negated-needs, exactly-needs, interval-needs, others-need, premises-asked, needs-start, needs-next, no-split, with-split}
 use Rattle.search.proofs.needed.Statement.{statement}
 use Rattle.search.proofs.needed.Tie as tie
 
@@ -35,6 +35,9 @@ enum-told c = search needs
 
 bit-at-requires : tie.Need-bit-at-requires Inv-loop μ-loop
 bit-at-requires c κs = search needs
+
+bit-at-requires-2 : tie.Need-bit-at-requires-2 Inv-loop μ-loop
+bit-at-requires-2 c κs = search needs
 
 enum-known-l : tie.Need-enum-known-l Inv-loop μ-loop
 enum-known-l c = search needs
@@ -66,38 +69,56 @@ span-of-requires-2 c κs = search needs
 split-of-requires : tie.Need-split-of-requires Inv-loop μ-loop
 split-of-requires c κs = search needs
 
-bit-at-requires-2 : tie.Need-bit-at-requires-2 Inv-loop μ-loop
-bit-at-requires-2 c κs = let k = kind (looped (c .before .before)) in omega (arith, split-low (range _ (start k .pre) (k .before .before .l .given .1)) (c .split-of .ensures) .0)
+bit-at-requires-3 : tie.Need-bit-at-requires-3 Inv-loop μ-loop
+bit-at-requires-3 c κs = let k = kind (looped (c .before .before)) in omega (arith, split-low (range _ (start k .pre) (k .before .before .l .given .1)) (c .split-of .ensures) .0)
+
+bit-at-requires-4 : tie.Need-bit-at-requires-4 Inv-loop μ-loop
+bit-at-requires-4 c κs = search needs
 
 returns : tie.Need-returns Inv-loop μ-loop
-returns c = let s = c .before .before .before in let l = looped s in let k = kind l in with-split _ (start k .pre) (k .before .before .l .given .1) (l .before .span-of .ensures) (s .before .before .loop-test .left) (l .loop .inv) (s .before .span-of2 .ensures) (c .before .split-of .ensures) (c .bit-at2 .ensures)
+returns c = let s = c .before .before .before .before in let l = looped s in let k = kind l in with-split _ (start k .pre) (k .before .before .l .given .1) (l .before .span-of .ensures) (s .before .before .loop-test .left) (l .loop .inv) (s .before .span-of2 .ensures) (c .before .before .split-of .ensures) (c .before .bit-at3 .ensures) (c .bit-at4 .ensures)
+
+enum-told-2 : tie.Need-enum-told-2 Inv-loop μ-loop
+enum-told-2 c = search needs
+
+bit-at-requires-5 : tie.Need-bit-at-requires-5 Inv-loop μ-loop
+bit-at-requires-5 c κs = search needs
 
 enum-known-l-2 : tie.Need-enum-known-l-2 Inv-loop μ-loop
 enum-known-l-2 c = search needs
 
-bit-at-requires-3 : tie.Need-bit-at-requires-3 Inv-loop μ-loop
-bit-at-requires-3 c κs = omega (arith, range _ (c .before .before .before .before .pre) (c .before .l2 .given .1) .0)
+bit-at-requires-6 : tie.Need-bit-at-requires-6 Inv-loop μ-loop
+bit-at-requires-6 c κs = omega (arith, range _ (c .before .before .before .before .pre) (c .before .l2 .given .1) .0)
+
+bit-at-requires-7 : tie.Need-bit-at-requires-7 Inv-loop μ-loop
+bit-at-requires-7 c κs = search needs
 
 enum-known-l-3 : tie.Need-enum-known-l-3 Inv-loop μ-loop
 enum-known-l-3 c = search needs
 
-bit-at-requires-4 : tie.Need-bit-at-requires-4 Inv-loop μ-loop
-bit-at-requires-4 c κs = omega (arith, range _ (c .before .before .before .before .pre) (c .before .l3 .given .1) .0)
+bit-at-requires-8 : tie.Need-bit-at-requires-8 Inv-loop μ-loop
+bit-at-requires-8 c κs = omega (arith, range _ (c .before .before .before .before .pre) (c .before .l3 .given .1) .0)
+
+bit-at-requires-9 : tie.Need-bit-at-requires-9 Inv-loop μ-loop
+bit-at-requires-9 c κs = search needs
 
 returns-2 : tie.Need-returns-2 Inv-loop μ-loop
-returns-2 c = let s = c .before .before .before .before in different-needs _ (s .pre) (c .before .enum-told .given .1) (c .bit-at .ensures)
+returns-2 c = let e = c .before .before in different-needs _ (e .before .before .before .pre) (e .enum-told .given .1) (c .before .bit-at .ensures) (c .bit-at2 .ensures)
 
 returns-3 : tie.Need-returns-3 Inv-loop μ-loop
 returns-3 c = let l = looped (c .before) in let k = kind l in no-split _ (start k .pre) (k .before .before .l .given .1) (l .before .span-of .ensures) (c .before .before .before .loop-test .left) (l .loop .inv) (c .before .before .span-of2 .ensures) (c .if1 .left)
 
 returns-4 : tie.Need-returns-4 Inv-loop μ-loop
-returns-4 c = exactly-needs _ (c .before .before .before .before .before .pre) (c .before .before .l2 .given .1) (c .bit-at3 .ensures)
+returns-4 c = let e = c .before in negated-needs _ (e .before .before .before .pre) (e .enum-told2 .given .1) (c .bit-at5 .ensures)
 
 returns-5 : tie.Need-returns-5 Inv-loop μ-loop
-returns-5 c = interval-needs _ (c .before .before .before .before .before .pre) (c .before .before .l3 .given .1) (c .bit-at4 .ensures)
+returns-5 c = let e = c .before .before .before in exactly-needs _ (e .before .before .before .pre) (e .l2 .given .1) (c .before .bit-at6 .ensures) (c .bit-at7 .ensures)
 
 returns-6 : tie.Need-returns-6 Inv-loop μ-loop
-returns-6 c = let s = c .before .before in others-need (s .args .l) (s .pre) (c .match .keys5)
+returns-6 c = let e = c .before .before .before in interval-needs _ (e .before .before .before .pre) (e .l3 .given .1) (c .before .bit-at8 .ensures) (c .bit-at9 .ensures)
+
+returns-7 : tie.Need-returns-7 Inv-loop μ-loop
+returns-7 c = let s = c .before .before in others-need (s .args .l) (s .pre) (c .match .keys6)
 
 pub needed-spec : {M : Type 1} → statement M
-needed-spec = tie.close (tie.spec Inv-loop μ-loop enum-told bit-at-requires enum-known-l shared-slice-read-kind span-of-requires loop-holds premises-requires add-j loop-less loop-again span-of-requires-2 split-of-requires bit-at-requires-2 returns enum-known-l-2 bit-at-requires-3 enum-known-l-3 bit-at-requires-4 returns-2 returns-3 returns-4 returns-5 returns-6)
+needed-spec = tie.close (tie.spec Inv-loop μ-loop enum-told bit-at-requires bit-at-requires-2 enum-known-l shared-slice-read-kind span-of-requires loop-holds premises-requires add-j loop-less loop-again span-of-requires-2 split-of-requires bit-at-requires-3 bit-at-requires-4 returns enum-told-2 bit-at-requires-5 enum-known-l-2 bit-at-requires-6 bit-at-requires-7 enum-known-l-3 bit-at-requires-8 bit-at-requires-9 returns-2 returns-3 returns-4 returns-5 returns-6 returns-7)

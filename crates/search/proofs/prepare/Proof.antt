@@ -4,7 +4,8 @@ use native.Mathlib.Omega.{arith}
 use lib.ListN.{length-set}
 use borrow.Author.Needs.{needs}
 use Rattle.rules.proofs.FitLaws.{entries-below}
-use Rattle.search.proofs.Turns.{Turn, turn-of}
+use Rattle.search.specs.Turns.{Turn}
+use Rattle.search.proofs.Turns.{turn-of}
 use Rattle.search.proofs.Marking.{Filled, fill-start, fill-next, fill-end}
 use Rattle.search.proofs.prepare.Statement.{statement}
 use Rattle.search.proofs.prepare.Tie as tie

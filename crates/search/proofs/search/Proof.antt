@@ -4,18 +4,20 @@ use Prim.Native.Nat.{_-_, _<_}
 use native.Mathlib.Omega.{arith}
 use lib.Count.{trailingZeros}
 use borrow.Author.Needs.{needs}
-use Rattle.bits.proofs.Count.{less-lt}
-use Rattle.search.proofs.Turns.{Turn, turn-of}
+use Rattle.bits.proofs.Count.{lowest-lt, less-lt}
+use Rattle.search.proofs.Narrowing.{quiet-within}
+use Rattle.search.specs.Turns.{Turn}
+use Rattle.search.proofs.Turns.{turn-of}
 use Rattle.search.proofs.Finding.{AtMask, AtRule, AtRoot, search-start, in-table, search-over, no-rules, rules-start, next-constraint, asked, no-roots, roots-start, next-rule, next-root, search-hit}
 use Rattle.search.proofs.search.Statement.{statement}
 use Rattle.search.proofs.search.Tie as tie
 
 abbrev Inv-loop2 : tie.InvT-loop2
-Inv-loop2 problem numbers offsets witnesses words parents rows terms split found₀ left n at end l entries bits j fit h₀ found h =
+Inv-loop2 problem numbers offsets witnesses words parents rows terms split found₀ left n at end l entries bits j fit low h₀ found h =
     AtRoot split terms problem parents rows n j end entries bits l fit h found
 
 abbrev μ-loop2 : tie.MeasureT-loop2
-μ-loop2 problem numbers offsets witnesses words parents rows terms split found₀ left n at end l entries bits j fit h₀ found h =
+μ-loop2 problem numbers offsets witnesses words parents rows terms split found₀ left n at end l entries bits j fit low h₀ found h =
     terms - h
 
 abbrev Inv-loop : tie.InvT-loop
@@ -36,12 +38,15 @@ abbrev μ-search : tie.MeasureT-search
 
 -- ---- the places
 
--- the call's start, from before the loops and from a constraint's turn
+-- the call's start, from before the mask is narrowed; where it is, from a constraint's turn; and the start from there
 abbrev entry : tie.After-shared-slice-known7 Inv-loop2 μ-loop2 Inv-loop μ-loop Inv-search μ-search → tie.Start Inv-loop2 μ-loop2 Inv-loop μ-loop Inv-search μ-search
 entry c = c .before .before .before .before .before .before .before
 
+abbrev narrowed : tie.In-search Inv-loop2 μ-loop2 Inv-loop μ-loop Inv-search μ-search → tie.After-looked-at Inv-loop2 μ-loop2 Inv-loop μ-loop Inv-search μ-search
+narrowed c = c .before .before
+
 abbrev start : tie.In-search Inv-loop2 μ-loop2 Inv-loop μ-loop Inv-search μ-search → tie.Start Inv-loop2 μ-loop2 Inv-loop μ-loop Inv-search μ-search
-start c = entry (c .before .before)
+start c = entry (narrowed c .before)
 
 -- a constraint's turn, from where its rules are known
 abbrev turn : tie.After-struct-known Inv-loop2 μ-loop2 Inv-loop μ-loop Inv-search μ-search → tie.In-search Inv-loop2 μ-loop2 Inv-loop μ-loop Inv-search μ-search
@@ -63,8 +68,11 @@ there c = turn-of (start c .pre .0 .tabled) (counted c)
 
 -- ---- the needs
 
+looked-at-requires : tie.Need-looked-at-requires Inv-loop2 μ-loop2 Inv-loop μ-loop Inv-search μ-search
+looked-at-requires c κs = let s = entry c in (s .pre .0 .words-are, s .pre .1 .rooted, λ i e. turn-of (s .pre .0 .tabled) (s .pre .2 i e))
+
 search-holds : tie.Need-search-holds Inv-loop2 μ-loop2 Inv-loop μ-loop Inv-search μ-search
-search-holds c = search-start _ _ (entry c .args .scope .split) (entry c .pre .0 .tabled) (omega arith) (entry c .pre .2)
+search-holds c = let s = entry (c .before) in search-start _ _ (s .args .scope .split) (s .pre .0 .tabled) (omega arith) (λ i e. s .pre .2 i (c .looked-at .ensures .within i e))
 
 cast-n : tie.Need-cast-n Inv-loop2 μ-loop2 Inv-loop μ-loop Inv-search μ-search
 cast-n c = let t = there c in omega arith
@@ -104,6 +112,9 @@ loop-holds c = let w = spanned (c .before) in let t = turn w in rules-start (t .
 
 fitting-requires : tie.Need-fitting-requires Inv-loop2 μ-loop2 Inv-loop μ-loop Inv-search μ-search
 fitting-requires c κs = (start (turn (spanned (c .before .before .before))) .pre .1, asked (c .before .loop .inv) (c .loop-test .taken))
+
+cast-low : tie.Need-cast-low Inv-loop2 μ-loop2 Inv-loop μ-loop Inv-search μ-search
+cast-low c = omega (arith, lowest-lt 64 (c .before .fitting .result) (omega arith) (c .if2 .taken))
 
 loop2-holds : tie.Need-loop2-holds Inv-loop2 μ-loop2 Inv-loop μ-loop Inv-search μ-search
 loop2-holds c = roots-start (c .before .before .before .loop .inv) (c .before .fitting .ensures) (c .before .before .loop-test .taken)
@@ -153,10 +164,10 @@ search-again c = let t = turn (c .before) in
     (c .if1 .came)
 
 returns : tie.Need-returns Inv-loop2 μ-loop2 Inv-loop μ-loop Inv-search μ-search
-returns c = search-over (c .before .search .inv) (c .search-test .left)
+returns c = let n = c .before .before in λ b z q. search-over (c .before .search .inv) (c .search-test .left) b z (quiet-within _ (entry (n .before) .args .totals .terms) b (n .looked-at .ensures) (z .parents-are) q)
 
 returns-2 : tie.Need-returns-2 Inv-loop2 μ-loop2 Inv-loop μ-loop Inv-search μ-search
-returns-2 c = let t = hit c in search-hit (t .before .search .inv) (t .search-test .taken) (c .before .before .loop2 .inv) (c .before .loop2-test .taken) (c .if3 .taken)
+returns-2 c = let t = hit c in λ b z q. search-hit (t .before .search .inv) (t .search-test .taken) (c .before .before .loop2 .inv) (c .before .loop2-test .taken) (c .if3 .taken) b z (quiet-within _ (start t .args .totals .terms) b (narrowed t .looked-at .ensures) (z .parents-are) q)
 
 pub search-spec : {M : Type 1} → statement M
-search-spec = tie.close (tie.spec Inv-loop2 μ-loop2 Inv-loop μ-loop Inv-search μ-search search-holds cast-n mul-at shared-slice-read-at cast-at shared-slice-read-span-of span-of-requires shared-slice-read-decode-at decode-at-requires list-at-requires mul-bits shared-slice-read-bits loop-holds fitting-requires loop2-holds cast-if3 shr-if3 cast-number add-h loop2-less loop2-again add-j loop-less loop-again sub-left search-less search-again returns returns-2)
+search-spec = tie.close (tie.spec Inv-loop2 μ-loop2 Inv-loop μ-loop Inv-search μ-search looked-at-requires search-holds cast-n mul-at shared-slice-read-at cast-at shared-slice-read-span-of span-of-requires shared-slice-read-decode-at decode-at-requires list-at-requires mul-bits shared-slice-read-bits loop-holds fitting-requires cast-low loop2-holds cast-if3 shr-if3 cast-number add-h loop2-less loop2-again add-j loop-less loop-again sub-left search-less search-again returns returns-2)
