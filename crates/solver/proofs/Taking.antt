@@ -158,6 +158,10 @@ module _ {bs : List ℕ} {tab : Table} {split : Bool} {b : Branch} {r : Found} {
     rowed = subst (λ (x : Asserted). Rowed (constants bs tab) (x .branch)) (sym e) (performed-rowed (constants bs tab) b (s .sound .good) (s .sound .rowed) a o);
   }
 
+-- what an arm of a match on an act leaves is the act performed
+pub by-arm : (b : Branch) {d : Branch} {x : Bool} {a c : Act} {t : Asserted} → a ≡ c → t ≡ performed b c → d ≡ t .branch → x ≡ t .conflict → _≡_ {A = Asserted} (record { branch = d; conflict = x }) (performed b a)
+by-arm b e f g h = rw (g, h) (f ∙ ap (performed b) (sym e))
+
 -- ---- what a search answers
 
 module _ {bs : List ℕ} {tab : Table} {split : Bool} {b : Branch} {r : Found} (o : Opened bs tab) (sound : Sound (constants bs tab) b) (f : Finds split (tab .terms) (constraints bs tab) (held b) r) where

@@ -109,14 +109,27 @@ fn work<'a>(
         let root = found.root;
         let l = found.constraint;
         let act = act_of(&at.parents, l, rule, root, 0);
-        let then = perform(at, act);
-        at = then.branch;
+        // Written out, not by `perform`: so a branch is copied twice, and not three times.
+        let mut conflict = true;
+        match act {
+            Act::Note(h, x, y) => {
+                let then = at.note(h, x, y);
+                at = then.branch;
+                conflict = then.conflict;
+            }
+            Act::Merge(lo, hi) => {
+                let then = at.merge(lo, hi);
+                at = then.branch;
+                conflict = then.conflict;
+            }
+            Act::Close => {}
+        }
         counts = Counts {
             steps: steps + 1,
             forms: listed,
             stop: 0,
         };
-        if then.conflict {
+        if conflict {
             note(trace, steps, rule, found.number, root.0, 0);
             return counts;
         }

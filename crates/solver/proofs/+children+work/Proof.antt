@@ -1,7 +1,7 @@
 -- The two workers meet their contracts together. Each call leaves less to do: what remains of the branch, twice, and one more for a branch not yet split.
 -- A branch's loop keeps that its propagation steps reach the branch as it is; every step leaves less of it. It returns with the budget spent, closed, as a form, or with its children worked.
 -- The children's loop keeps that the children so far were worked as they should be, and that the word has those that are left; it ends with their numbers.
-use mathlib.Core.Path.{_≡_, refl, ap, _∙_}
+use mathlib.Core.Path.{_≡_, refl, sym, ap, _∙_, subst}
 use mathlib.Core.Logic.{⊎-elim}
 use Prim.Native.Nat.{ℕ, _+_, _-_, _*_, _<_, _≤_}
 use native.Mathlib.Omega.{arith}
@@ -11,11 +11,14 @@ use borrow.Fn.Kinds.{In}
 use borrow.Fn.PlainCycle.{Measures, is, falls, and}
 use mathlib.Core.Bool.{false≢true}
 use Rattle.problem.specs.Table.{tableBy}
+use Rattle.branch.specs.declared.Asserted.{Asserted}
+use Rattle.step.specs.declared.Act.{Act}
+use Rattle.step.specs.Acts.{performed, Rooted}
 use Rattle.constraints.proofs.Decoding.{two-operands}
-use Rattle.solver.specs.Outcomes.{remaining, Ready}
+use Rattle.solver.specs.Outcomes.{remaining, Wakes, Ready}
 use Rattle.solver.proofs.Opening.{terms-few, stands, lent, shows}
 use Rattle.solver.proofs.Waking.{narrowed, narrowed-splits, quieted, widened}
-use Rattle.solver.proofs.Taking.{taking, none-found, is-placed, first-there, somewhere, not-20, inferred, low-act, child-sound, child-less}
+use Rattle.solver.proofs.Taking.{taking, none-found, is-placed, first-there, somewhere, not-20, inferred, by-arm, low-act, child-sound, child-less}
 use Rattle.solver.proofs.Settling.{Reached, reached-start, reached-again, reaches, step-spent, step-closes, step-goes}
 use Rattle.solver.proofs.Workers.{same-room, rooted, decodes, relisted, free, left-number, splitting, split-taking, split-decodes, works-form, works-spent, works-split, split-begun, Worked, worked-begin, worked-done, worked-skip, made, opens, worked-next, worked-stop}
 use Rattle.solver.proofs.children.Reads as children
@@ -24,6 +27,8 @@ use Rattle.solver.proofs.+children+work.Lts-children as children-lts
 use Rattle.solver.proofs.work.Reads as work
 use Rattle.solver.proofs.work.Kinds as work-kinds
 use Rattle.solver.proofs.+children+work.Lts-work as work-lts
+use Rattle.branch.proofs.Branch.merge.Reads as merge-reads
+use Rattle.branch.proofs.Branch.note.Reads as note-fact-reads
 use Rattle.constraints.proofs.list_at.Reads as list-at-reads
 use Rattle.output.proofs.list_form.Reads as list-form-reads
 use Rattle.output.proofs.note.Reads as note-reads
@@ -78,7 +83,7 @@ calls-children t =
 
 abbrev calls-work : ℕ → work-lts.Claims
 calls-work t =
-    (search-reads.Asked, search-reads.Learnt, act-of-reads.Asked, act-of-reads.Learnt, perform-reads.Asked, perform-reads.Learnt, note-reads.Asked, note-reads.Learnt, wakes-reads.Asked, wakes-reads.Learnt, list-form-reads.Asked, list-form-reads.Learnt, list-at-reads.Asked, list-at-reads.Learnt, kept-reads.Asked, kept-reads.Learnt, number-reads.Asked, number-reads.Learnt, children-below t, children.Post)
+    (search-reads.Asked, search-reads.Learnt, act-of-reads.Asked, act-of-reads.Learnt, note-fact-reads.Asked, note-fact-reads.Learnt, merge-reads.Asked, merge-reads.Learnt, note-reads.Asked, note-reads.Learnt, wakes-reads.Asked, wakes-reads.Learnt, list-form-reads.Asked, list-form-reads.Learnt, list-at-reads.Asked, list-at-reads.Learnt, kept-reads.Asked, kept-reads.Learnt, number-reads.Asked, number-reads.Learnt, children-below t, children.Post)
 
 -- ---- the children's places: the start before the entries were listed; the listing, the slots and the loop's turn before a child
 
@@ -199,7 +204,7 @@ children-returns-2 t c =
     let q = start t l .pre .1 in
     worked-done (split-taking (q .0 .tabled .opened) (q .1) (l .list-at .ensures)) (c .before .loop .inv .0) (omega (arith, c .loop-test .left, c .before .before .before .slots .ensures))
 
--- ---- the branch's places: the start and the loop's turn before a search; the search before an act; the search for propagation rules before that for splits, and that before the children were kept
+-- ---- the branch's places: the start and the loop's turn before a search; the search before an act was told; the search for propagation rules before that for splits, and that before the children were kept
 
 abbrev start-of : (t : ℕ) → work-lts.After-search (calls-work t) (work-at t) work.Post work-Inv-loop work-μ-loop → work-lts.Start (calls-work t) (work-at t) work.Post work-Inv-loop work-μ-loop
 start-of t c = c .before .before .before .before .before .before .before .before .before .before .before .before .before .before .before .before .before
@@ -207,8 +212,8 @@ start-of t c = c .before .before .before .before .before .before .before .before
 abbrev turn-of : (t : ℕ) → work-lts.After-search (calls-work t) (work-at t) work.Post work-Inv-loop work-μ-loop → work-lts.At-loop (calls-work t) (work-at t) work.Post work-Inv-loop work-μ-loop
 turn-of t c = c .before .before .before .before .before .before
 
-abbrev searched : (t : ℕ) → work-lts.After-perform (calls-work t) (work-at t) work.Post work-Inv-loop work-μ-loop → work-lts.After-search (calls-work t) (work-at t) work.Post work-Inv-loop work-μ-loop
-searched t c = c .before .before .before .before .before .before .before .before
+abbrev searched : (t : ℕ) → work-lts.After-act-of (calls-work t) (work-at t) work.Post work-Inv-loop work-μ-loop → work-lts.After-search (calls-work t) (work-at t) work.Post work-Inv-loop work-μ-loop
+searched t c = c .before .before .before .before .before .before .before
 
 abbrev settled : (t : ℕ) → work-lts.After-search2 (calls-work t) (work-at t) work.Post work-Inv-loop work-μ-loop → work-lts.After-search (calls-work t) (work-at t) work.Post work-Inv-loop work-μ-loop
 settled t c = c .before .before .before .before .before .before .before
@@ -243,71 +248,103 @@ work-act-of-requires t c κs =
     let k = taking (p .0 .tabled .opened) (y .sound) (s .search .ensures _ (shows (y .sound)) (y .propagation)) (λ e. absurd (false≢true e)) (c .before .before .before .before .before .if1 .left) in
     (y .sound .good .sized, y .sound .good .falls, somewhere k, not-20 k)
 
-work-perform-requires : (t : ℕ) → work-lts.Need-perform-requires (calls-work t) (work-at t) work.Post work-Inv-loop work-μ-loop
-work-perform-requires t c κs =
-    let s = c .before .before .before .before .before .before .before in
+-- the act is on roots
+work-rooted : (t : ℕ) (c : work-lts.After-act-of (calls-work t) (work-at t) work.Post work-Inv-loop work-μ-loop) → Rooted (turn-of t (searched t c) .loop .at .parents) (c .act-of .result)
+work-rooted t c =
+    let s = searched t c in
     let p = start-of t s .pre .1 in
-    let v = turn-of t s .loop .inv .0 in
     let y = turn-of t s .loop .inv .2 in
     let k = taking (p .0 .tabled .opened) (y .sound) (s .search .ensures _ (shows (y .sound)) (y .propagation)) (λ e. absurd (false≢true e)) (c .before .before .before .before .before .before .if1 .left) in
     c .act-of .ensures .0 _ _ (is-placed k) (first-there k) .rooted
 
-work-add-t45 : (t : ℕ) → work-lts.Need-add-t45 (calls-work t) (work-at t) work.Post work-Inv-loop work-μ-loop
-work-add-t45 t c = let g = turn-of t (searched t (c .before)) .loop .inv .0 .going in omega (arith, g .within, g .few)
+work-enum-known-act : (t : ℕ) → work-lts.Need-enum-known-act (calls-work t) (work-at t) work.Post work-Inv-loop work-μ-loop
+work-enum-known-act t c = search needs
 
 work-note-requires : (t : ℕ) → work-lts.Need-note-requires (calls-work t) (work-at t) work.Post work-Inv-loop work-μ-loop
-work-note-requires t c κs = let q = c .before .before .before in let g = turn-of t (searched t q) .loop .inv .0 .going in omega (arith, g .within, g .traced, q .before .before .before .before .before .before .if2 .left)
+work-note-requires t c κs = let a = c .before .before .before in subst (Rooted (turn-of t (searched t a) .loop .at .parents)) (c .before .act .given .1) (work-rooted t a) .0
+
+work-enum-known-act-2 : (t : ℕ) → work-lts.Need-enum-known-act-2 (calls-work t) (work-at t) work.Post work-Inv-loop work-μ-loop
+work-enum-known-act-2 t c = search needs
+
+work-merge-requires : (t : ℕ) → work-lts.Need-merge-requires (calls-work t) (work-at t) work.Post work-Inv-loop work-μ-loop
+work-merge-requires t c κs =
+    let a = c .before .before .before in
+    let r = subst (Rooted (turn-of t (searched t a) .loop .at .parents)) (c .before .act2 .given .1) (work-rooted t a) in
+    (omega (arith, r .0, r .1), r .1)
+
+work-enum-told : (t : ℕ) → work-lts.Need-enum-told (calls-work t) (work-at t) work.Post work-Inv-loop work-μ-loop
+work-enum-told t c = search needs
+
+-- where the arms meet the act is as it was, and it has been performed
+work-acted : (t : ℕ) (c : work-lts.At-match-came (calls-work t) (work-at t) work.Post work-Inv-loop work-μ-loop) → (c .match .act ≡ c .before .act-of .result) × _≡_ {A = Asserted} (record { branch = c .match .at; conflict = c .match .conflict }) (performed (turn-of t (searched t (c .before)) .loop .at) (c .before .act-of .result))
+work-acted t c = let b = turn-of t (searched t (c .before)) .loop .at in
+    ⊎-elim
+    (λ w. (w .6 ∙ sym (w .1 .given .1), by-arm b (w .1 .given .1) (w .3 .ensures) (w .5) (w .7)))
+    (⊎-elim
+    (λ w. (w .6 ∙ sym (w .1 .given .1), by-arm b (w .1 .given .1) (w .3 .ensures) (w .5) (w .7)))
+    (λ w. (w .3, by-arm b (w .1 .given .1) refl (w .2) (w .4))))
+    (c .match .came)
+
+work-add-t53 : (t : ℕ) → work-lts.Need-add-t53 (calls-work t) (work-at t) work.Post work-Inv-loop work-μ-loop
+work-add-t53 t c = let g = turn-of t (searched t (c .before)) .loop .inv .0 .going in omega (arith, g .within, g .few)
+
+work-note-requires-2 : (t : ℕ) → work-lts.Need-note-requires-2 (calls-work t) (work-at t) work.Post work-Inv-loop work-μ-loop
+work-note-requires-2 t c κs = let q = c .before .before .before in let g = turn-of t (searched t q) .loop .inv .0 .going in omega (arith, g .within, g .traced, q .before .before .before .before .before .if2 .left)
 
 work-same-length-2 : (t : ℕ) → work-lts.Need-same-length-2 (calls-work t) (work-at t) work.Post work-Inv-loop work-μ-loop
 work-same-length-2 t c = c .before .trace .given ∙ turn-of t (searched t (c .before .before .before .before .before .before)) .loop .inv .1
 
 work-returns-2 : (t : ℕ) → work-lts.Need-returns-2 (calls-work t) (work-at t) work.Post work-Inv-loop work-μ-loop
 work-returns-2 t c =
-    let q = c .before .before .before .before .before .before in
+    let j = c .before .before .before .before .before in
+    let q = j .before in
     let s = searched t q in
     let p = start-of t s .pre .1 in
     let v = turn-of t s .loop .inv .0 in
     let y = turn-of t s .loop .inv .2 in
     let f = s .search .ensures _ (shows (y .sound)) (y .propagation) in
-    let n = q .before .before .before .before .before .before .before .if1 .left in
+    let n = q .before .before .before .before .before .before .if1 .left in
     let k = taking (p .0 .tabled .opened) (y .sound) f (λ e. absurd (false≢true e)) n in
-    let m = inferred k (q .before .act-of .ensures .0 _ _ (is-placed k) (first-there k)) (q .perform .ensures) in
-    reaches v _ _ (step-closes k _ _ (v .going) m (omega (arith, v .going .within, q .before .before .before .before .before .before .if2 .left)) (c .before .before .before .before .if3 .taken) _ (c .before .before .note .ensures) _)
+    let m = inferred k (q .act-of .ensures .0 _ _ (is-placed k) (first-there k)) (work-acted t j .1) in
+    reaches v _ _ (step-closes k _ _ (v .going) m (omega (arith, v .going .within, q .before .before .before .before .before .if2 .left)) (c .before .before .before .before .if3 .taken) _ (c .before .before .note2 .ensures) _)
 
-work-note-requires-2 : (t : ℕ) → work-lts.Need-note-requires-2 (calls-work t) (work-at t) work.Post work-Inv-loop work-μ-loop
-work-note-requires-2 t c κs = let q = c .before .before .before in let g = turn-of t (searched t q) .loop .inv .0 .going in omega (arith, g .within, g .traced, q .before .before .before .before .before .before .if2 .left)
+work-note-requires-3 : (t : ℕ) → work-lts.Need-note-requires-3 (calls-work t) (work-at t) work.Post work-Inv-loop work-μ-loop
+work-note-requires-3 t c κs = let q = c .before .before .before in let g = turn-of t (searched t q) .loop .inv .0 .going in omega (arith, g .within, g .traced, q .before .before .before .before .before .if2 .left)
 
 work-wakes-requires : (t : ℕ) → work-lts.Need-wakes-requires (calls-work t) (work-at t) work.Post work-Inv-loop work-μ-loop
 work-wakes-requires t c κs = start-of t (searched t (c .before .before .before .before .before .before)) .pre .1 .0 .words-are .long
 
 work-loop-less : (t : ℕ) → work-lts.Need-loop-less (calls-work t) (work-at t) work.Post work-Inv-loop work-μ-loop
 work-loop-less t c =
-    let q = c .before .before .before .before .before .before .before .before in
+    let j = c .before .before .before .before .before .before .before in
+    let q = j .before in
     let s = searched t q in
     let p = start-of t s .pre .1 in
     let v = turn-of t s .loop .inv .0 in
     let y = turn-of t s .loop .inv .2 in
     let f = s .search .ensures _ (shows (y .sound)) (y .propagation) in
-    let n = q .before .before .before .before .before .before .before .if1 .left in
+    let n = q .before .before .before .before .before .before .if1 .left in
     let k = taking (p .0 .tabled .opened) (y .sound) f (λ e. absurd (false≢true e)) n in
-    let m = inferred k (q .before .act-of .ensures .0 _ _ (is-placed k) (first-there k)) (q .perform .ensures) in
+    let m = inferred k (q .act-of .ensures .0 _ _ (is-placed k) (first-there k)) (work-acted t j .1) in
     child-less k m (c .before .before .before .before .before .before .if3 .left)
 
 work-loop-again : (t : ℕ) → work-lts.Need-loop-again (calls-work t) (work-at t) work.Post work-Inv-loop work-μ-loop
 work-loop-again t c =
-    let q = c .before .before .before .before .before .before .before .before in
+    let j = c .before .before .before .before .before .before .before in
+    let q = j .before in
     let s = searched t q in
     let p = start-of t s .pre .1 in
     let v = turn-of t s .loop .inv .0 in
     let y = turn-of t s .loop .inv .2 in
     let f = s .search .ensures _ (shows (y .sound)) (y .propagation) in
-    let n = q .before .before .before .before .before .before .before .if1 .left in
+    let n = q .before .before .before .before .before .before .if1 .left in
     let k = taking (p .0 .tabled .opened) (y .sound) f (λ e. absurd (false≢true e)) n in
-    let m = inferred k (q .before .act-of .ensures .0 _ _ (is-placed k) (first-there k)) (q .perform .ensures) in
+    let d = work-acted t j in
+    let m = inferred k (q .act-of .ensures .0 _ _ (is-placed k) (first-there k)) (d .1) in
     let x = c .before .before .before .before .before .before .if3 .left in (
-      reached-again v (step-goes k _ _ (v .going) m (omega (arith, v .going .within, q .before .before .before .before .before .before .if2 .left)) x _ (c .before .before .before .before .note2 .ensures)),
+      reached-again v (step-goes k _ _ (v .going) m (omega (arith, v .going .within, q .before .before .before .before .before .if2 .left)) x _ (c .before .before .before .before .note3 .ensures)),
       c .before .before .before .trace2 .given ∙ turn-of t s .loop .inv .1,
-      widened (p .0) (narrowed (p .0) y f) (q .before .act-of .result) _ (q .before .act-of .ensures .0 _ _ (is-placed k) (first-there k) .rooted) (low-act k (q .before .act-of .result) (q .before .act-of .ensures .1 (f .there n .entries))) (c .before .wakes .ensures) (q .perform .ensures) (child-sound k m x),
+      widened (p .0) (narrowed (p .0) y f) (q .act-of .result) _ (work-rooted t q) (low-act k (q .act-of .result) (q .act-of .ensures .1 (f .there n .entries))) (subst (λ (a : Act). Wakes (start-of t s .args .words .now) a (c .before .wakes .result)) (d .0) (c .before .wakes .ensures)) (d .1) (child-sound k m x),
     )
 
 work-search-requires-2 : (t : ℕ) → work-lts.Need-search-requires-2 (calls-work t) (work-at t) work.Post work-Inv-loop work-μ-loop
@@ -407,11 +444,11 @@ work-kept-requires t c κs =
 work-number-requires : (t : ℕ) → work-lts.Need-number-requires (calls-work t) (work-at t) work.Post work-Inv-loop work-μ-loop
 work-number-requires t c κs = search needs
 
-work-note-requires-3 : (t : ℕ) → work-lts.Need-note-requires-3 (calls-work t) (work-at t) work.Post work-Inv-loop work-μ-loop
-work-note-requires-3 t c κs = let k = c .before .before in let g = turn-of t (settled t (split-at t k)) .loop .inv .0 .going in omega (arith, g .within, g .traced, k .before .before .before .before .before .before .before .before .before .before .before .before .before .if5 .left)
+work-note-requires-4 : (t : ℕ) → work-lts.Need-note-requires-4 (calls-work t) (work-at t) work.Post work-Inv-loop work-μ-loop
+work-note-requires-4 t c κs = let k = c .before .before in let g = turn-of t (settled t (split-at t k)) .loop .inv .0 .going in omega (arith, g .within, g .traced, k .before .before .before .before .before .before .before .before .before .before .before .before .before .if5 .left)
 
-work-add-t60 : (t : ℕ) → work-lts.Need-add-t60 (calls-work t) (work-at t) work.Post work-Inv-loop work-μ-loop
-work-add-t60 t c = let g = turn-of t (settled t (split-at t (c .before .before .before .before .before))) .loop .inv .0 .going in omega (arith, g .within, g .few)
+work-add-t68 : (t : ℕ) → work-lts.Need-add-t68 (calls-work t) (work-at t) work.Post work-Inv-loop work-μ-loop
+work-add-t68 t c = let g = turn-of t (settled t (split-at t (c .before .before .before .before .before))) .loop .inv .0 .going in omega (arith, g .within, g .few)
 
 work-children-requires : (t : ℕ) → work-lts.Need-children-requires (calls-work t) (work-at t) work.Post work-Inv-loop work-μ-loop
 work-children-requires t c κs =
@@ -429,7 +466,7 @@ work-children-requires t c κs =
       (
         p .0,
         splitting r _ (search needs) L _ (narrowed-splits (p .0) (quieted (p .0) y (s .search .ensures _ (shows (y .sound)) (y .propagation)) z) (x .search2 .ensures _ (shows (y .sound)) (y .splits))),
-        split-begun (p .0 .tabled .opened) v _ r (i .before .before .before .before .before .before .before .before .before .before .before .before .before .if5 .left) _ (c .before .before .before .before .before .number .ensures ∙ left-number r _ (search needs) L) _ (c .before .before .before .before .note3 .ensures) (p .2 .fine),
+        split-begun (p .0 .tabled .opened) v _ r (i .before .before .before .before .before .before .before .before .before .before .before .before .before .if5 .left) _ (c .before .before .before .before .before .number .ensures ∙ left-number r _ (search needs) L) _ (c .before .before .before .before .note4 .ensures) (p .2 .fine),
       ),
     )
 
@@ -451,7 +488,7 @@ work-returns-5 t c =
     let k = taking (p .0 .tabled .opened) (y .sound) (x .search2 .ensures _ (shows (y .sound)) (y .splits)) (λ _. (none-found (p .0 .tabled .opened) (y .sound) (s .search .ensures _ (shows (y .sound)) (y .propagation)) z)) (i .before .before .before .before .before .before .before .before .before .before .before .before .before .before .if4 .left) in
     let r = relisted (rooted k) (i .before .before .before .before .before .before .before .before .before .before .list-at .ensures) in
     let L = i .kept .ensures _ (y .sound .good) (y .sound .rowed .fixed) in
-    works-split (p .0 .tabled .opened) v _ r (i .before .before .before .before .before .before .before .before .before .before .before .before .before .if5 .left) _ (c .before .before .before .before .before .before .before .before .before .before .number .ensures ∙ left-number r _ (search needs) L) _ (c .before .before .before .before .before .before .before .before .before .note3 .ensures) _ (c .before .before .before .before .children .ensures)
+    works-split (p .0 .tabled .opened) v _ r (i .before .before .before .before .before .before .before .before .before .before .before .before .before .if5 .left) _ (c .before .before .before .before .before .before .before .before .before .before .number .ensures ∙ left-number r _ (search needs) L) _ (c .before .before .before .before .before .before .before .before .before .note4 .ensures) _ (c .before .before .before .before .children .ensures)
 
 pub +children+work-spec : {M : Type 1} → statement M
 +children+work-spec = close μ-children μ-work (λ t. children-lts.spec (calls-children t)
@@ -489,12 +526,16 @@ pub +children+work-spec : {M : Type 1} → statement M
     (work-same-length t)
     (work-returns t)
     (work-act-of-requires t)
-    (work-perform-requires t)
-    (work-add-t45 t)
+    (work-enum-known-act t)
     (work-note-requires t)
+    (work-enum-known-act-2 t)
+    (work-merge-requires t)
+    (work-enum-told t)
+    (work-add-t53 t)
+    (work-note-requires-2 t)
     (work-same-length-2 t)
     (work-returns-2 t)
-    (work-note-requires-2 t)
+    (work-note-requires-3 t)
     (work-wakes-requires t)
     (work-loop-less t)
     (work-loop-again t)
@@ -512,8 +553,8 @@ pub +children+work-spec : {M : Type 1} → statement M
     (work-list-at-requires t)
     (work-kept-requires t)
     (work-number-requires t)
-    (work-note-requires-3 t)
-    (work-add-t60 t)
+    (work-note-requires-4 t)
+    (work-add-t68 t)
     (work-children-requires t)
     (work-same-length-6 t)
     (work-same-length-7 t)
