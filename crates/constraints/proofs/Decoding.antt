@@ -1,6 +1,6 @@
 -- The laws of a constraint that is decoded, and of its entries. Assumes nothing.
 use mathlib.Core.Path.{_≡_, refl, sym, ap, ap₂, _∙_, subst}
-use mathlib.Core.Logic.{_≢_, _⊎_, inl, inr}
+use mathlib.Core.Logic.{_≢_}
 use mathlib.Core.List.{List, [], _∷_, _++_, map}
 use Prim.Native.Nat.{ℕ, zero, suc, _+_, _-_, _<_, _≤_}
 use native.Mathlib.Omega.{arith}
@@ -72,27 +72,34 @@ by-kind cs N S w rest (calculus.negation relations.unequal A B C u) a h = ap₂ 
 by-kind cs N S w rest (calculus.exactly A es) a h = refl
 by-kind cs N S w rest (calculus.interval A i j) a h = refl
 
--- kinds are 1 to 12, and at least two operands are written, three for kinds 7, 10 and 12
-kind-sizes : (x : calculus.Constraint) → (1 ≤ kindOf x) × (kindOf x ≤ 12) × (3 ≤ length (encodeConstraint x)) × (7 ≤ kindOf x → kindOf x ≢ 8 → kindOf x ≢ 9 → kindOf x ≢ 11 → 4 ≤ length (encodeConstraint x))
-kind-sizes (calculus.member t A) = (omega arith, omega arith, omega arith, λ a b c d. omega arith)
-kind-sizes (calculus.nonmember t A) = (omega arith, omega arith, omega arith, λ a b c d. omega arith)
-kind-sizes (calculus.same t u) = (omega arith, omega arith, omega arith, λ a b c d. omega arith)
-kind-sizes (calculus.different t u) = (omega arith, omega arith, omega arith, λ a b c d. omega arith)
-kind-sizes (calculus.relation relations.equal A B C) = (omega arith, omega arith, omega arith, λ a b c d. omega arith)
-kind-sizes (calculus.relation relations.union A B C) = (omega arith, omega arith, omega arith, λ a b c d. omega arith)
-kind-sizes (calculus.relation relations.disjoint A B C) = (omega arith, omega arith, omega arith, λ a b c d. absurd (b refl))
-kind-sizes (calculus.relation relations.subset A B C) = (omega arith, omega arith, omega arith, λ a b c d. absurd (c refl))
-kind-sizes (calculus.relation relations.intersection A B C) = (omega arith, omega arith, omega arith, λ a b c d. omega arith)
-kind-sizes (calculus.negation relations.unequal A B C u) = (omega arith, omega arith, omega arith, λ a b c d. omega arith)
-kind-sizes (calculus.exactly A es) = (omega arith, omega arith, omega arith, λ a b c d. absurd (d refl))
-kind-sizes (calculus.interval A i j) = (omega arith, omega arith, omega arith, λ a b c d. omega arith)
+-- the kinds of three operands
+abbrev three : List ℕ
+three = 7 ∷ 10 ∷ 12 ∷ []
 
--- the kinds that are left when others are gone
-pub from-seven : (k : ℕ) → 1 ≤ k → k ≢ 1 → k ≢ 2 → k ≢ 3 → k ≢ 4 → k ≢ 5 → k ≢ 6 → 7 ≤ k
-from-seven k l n₁ n₂ n₃ n₄ n₅ n₆ = omega arith
+-- kinds are 1 to 12, and at least two operands are written, three for the kinds above
+kind-sizes : (x : calculus.Constraint) → (1 ≤ kindOf x) × (kindOf x ≤ 12) × (3 ≤ length (encodeConstraint x)) × (OneOf three (kindOf x) → 4 ≤ length (encodeConstraint x))
+kind-sizes (calculus.member t A) = (omega arith, omega arith, omega arith, λ h. absurd (miss three 1 tt h))
+kind-sizes (calculus.nonmember t A) = (omega arith, omega arith, omega arith, λ h. absurd (miss three 2 tt h))
+kind-sizes (calculus.same t u) = (omega arith, omega arith, omega arith, λ h. absurd (miss three 3 tt h))
+kind-sizes (calculus.different t u) = (omega arith, omega arith, omega arith, λ h. absurd (miss three 4 tt h))
+kind-sizes (calculus.relation relations.equal A B C) = (omega arith, omega arith, omega arith, λ h. absurd (miss three 5 tt h))
+kind-sizes (calculus.relation relations.union A B C) = (omega arith, omega arith, omega arith, λ h. omega arith)
+kind-sizes (calculus.relation relations.disjoint A B C) = (omega arith, omega arith, omega arith, λ h. absurd (miss three 8 tt h))
+kind-sizes (calculus.relation relations.subset A B C) = (omega arith, omega arith, omega arith, λ h. absurd (miss three 9 tt h))
+kind-sizes (calculus.relation relations.intersection A B C) = (omega arith, omega arith, omega arith, λ h. omega arith)
+kind-sizes (calculus.negation relations.unequal A B C u) = (omega arith, omega arith, omega arith, λ h. absurd (miss three 6 tt h))
+kind-sizes (calculus.exactly A es) = (omega arith, omega arith, omega arith, λ h. absurd (miss three 11 tt h))
+kind-sizes (calculus.interval A i j) = (omega arith, omega arith, omega arith, λ h. omega arith)
 
-pub last-kind : (k : ℕ) → 7 ≤ k → k ≤ 12 → k ≢ 7 → k ≢ 8 → k ≢ 9 → k ≢ 10 → k ≢ 11 → k ≡ 12
-last-kind k l h n₇ n₈ n₉ n₁₀ n₁₁ = omega arith
+-- k is none of 1 to n, as the last arm of a match knows it
+abbrev NoneTo : ℕ → ℕ → Type 0
+NoneTo zero k = Unit {0}
+NoneTo (suc n) k = NoneTo n k × (k ≢ suc n)
+
+-- then it is 0 or above n
+above : (n k : ℕ) → 1 ≤ k → NoneTo n k → n < k
+above zero k l h = l
+above (suc n) k l h = omega (arith, above n k l (h .0), h .1)
 
 -- ---- constraint i of a problem
 
@@ -176,24 +183,20 @@ module _ (bs : List ℕ) (i at : ℕ) (st : Stands bs i at) where
   here-length : length bs - at ≡ length (encodeConstraint this) + length (place .rest)
   here-length = sym (length-drop at bs) ∙ ap length here ∙ length-append (encodeConstraint this) (place .rest)
 
-  -- its kind byte is 1 to 12
-  pub kind-range : (1 ≤ getD bs at 0) × (getD bs at 0 ≤ 12)
-  kind-range = let k = kind-sizes this in omega (arith, k .0, k .1, kind-here)
+  -- a kind byte that is none of 1 to 11 is 12
+  pub last-kind : NoneTo 11 (getD bs at 0) → getD bs at 0 ≡ 12
+  last-kind h =
+      let k = kind-sizes this in
+      let l : 1 ≤ getD bs at 0 = omega (arith, k .0, kind-here) in
+      omega (arith, above 11 (getD bs at 0) l h, k .1, kind-here)
 
   -- two operands are there
   pub two-operands : (i < 48) × (at + 2 < length bs) × (length bs ≤ 4096)
   two-operands = (place .small, omega (arith, kind-sizes this .2, here-length), place .short)
 
-  -- a third is there for kinds 7, 10 and 12
-  pub third-operand : 7 ≤ getD bs at 0 → getD bs at 0 ≢ 8 → getD bs at 0 ≢ 9 → getD bs at 0 ≢ 11 → at + 3 < length bs
-  third-operand a b c d =
-      let e = kind-here in
-      let n : 4 ≤ length (encodeConstraint this) = kind-sizes this .3 (omega arith) (λ q. b (e ∙ q)) (λ q. c (e ∙ q)) (λ q. d (e ∙ q)) in
-      omega (arith, here-length)
-
-  pub third-there : (k : ℕ) → (k ≡ 7) ⊎ (k ≡ 10) → getD bs at 0 ≡ k → at + 3 < length bs
-  third-there k (inl z) e = third-operand (omega arith) (omega arith) (omega arith) (omega arith)
-  third-there k (inr z) e = third-operand (omega arith) (omega arith) (omega arith) (omega arith)
+  -- a third is there where the kind has one
+  pub third-operand : OneOf three (getD bs at 0) → at + 3 < length bs
+  third-operand h = omega (arith, kind-sizes this .3 (subst (OneOf three) kind-here h), here-length)
 
   -- constraint i is that of its kind over the bytes that follow its kind byte
   pub reads-as : (w : ℕ) → term w ≡ witnessOf bs i → (k : ℕ) → getD bs at 0 ≡ k → this ≡ ofKind k (getD bs (at + 1) 0) (getD bs (at + 2) 0) (getD bs (at + 3) 0) w (listed this)

@@ -40,44 +40,33 @@ pub fn decode_at(problem: &[u8], i: usize, at: usize, w: u8) -> Constraint
     requires { ⌜ Stands (now problem) i at × (term w ≡ witnessOf (now problem) i) ⌝ }
     ensures { λ r. ⌜ constraintOf (now (problem .entry)) i ≡ decoded (listed (constraintOf (now (problem .entry)) i)) r ⌝ }
 {
-    let kind = problem[at];
     let p = problem[at + 1];
     let q = problem[at + 2];
-    if kind == 1 {
-        return Constraint::Member(Term(p), SetVar(q));
+    match problem[at] {
+        1 => Constraint::Member(Term(p), SetVar(q)),
+        2 => Constraint::Nonmember(Term(p), SetVar(q)),
+        3 => Constraint::Same(Term(p), Term(q)),
+        4 => Constraint::Different(Term(p), Term(q)),
+        5 => Constraint::Related(Relation::Equal, SetVar(p), SetVar(q), SetVar(p)),
+        6 => Constraint::Negated(Negation::Unequal, SetVar(p), SetVar(q), SetVar(p), Term(w)),
+        7 => Constraint::Related(
+            Relation::Union,
+            SetVar(p),
+            SetVar(q),
+            SetVar(problem[at + 3]),
+        ),
+        8 => Constraint::Related(Relation::Disjoint, SetVar(p), SetVar(q), SetVar(p)),
+        9 => Constraint::Related(Relation::Subset, SetVar(p), SetVar(q), SetVar(p)),
+        10 => Constraint::Related(
+            Relation::Intersection,
+            SetVar(p),
+            SetVar(q),
+            SetVar(problem[at + 3]),
+        ),
+        11 => Constraint::Exactly(SetVar(p)),
+        // kind 12
+        _ => Constraint::Interval(SetVar(p), Term(q), Term(problem[at + 3])),
     }
-    if kind == 2 {
-        return Constraint::Nonmember(Term(p), SetVar(q));
-    }
-    if kind == 3 {
-        return Constraint::Same(Term(p), Term(q));
-    }
-    if kind == 4 {
-        return Constraint::Different(Term(p), Term(q));
-    }
-    if kind == 5 {
-        return Constraint::Related(Relation::Equal, SetVar(p), SetVar(q), SetVar(p));
-    }
-    if kind == 6 {
-        return Constraint::Negated(Negation::Unequal, SetVar(p), SetVar(q), SetVar(p), Term(w));
-    }
-    if kind == 8 {
-        return Constraint::Related(Relation::Disjoint, SetVar(p), SetVar(q), SetVar(p));
-    }
-    if kind == 9 {
-        return Constraint::Related(Relation::Subset, SetVar(p), SetVar(q), SetVar(p));
-    }
-    if kind == 11 {
-        return Constraint::Exactly(SetVar(p));
-    }
-    let s = problem[at + 3];
-    if kind == 7 {
-        return Constraint::Related(Relation::Union, SetVar(p), SetVar(q), SetVar(s));
-    }
-    if kind == 10 {
-        return Constraint::Related(Relation::Intersection, SetVar(p), SetVar(q), SetVar(s));
-    }
-    Constraint::Interval(SetVar(p), Term(q), Term(s))
 }
 
 // Constraint i.
