@@ -32,7 +32,7 @@ pub record Spared (n : ℕ) (l : Constraint) (lo hi word : ℕ) : Type 0 where
   pub unneeded : (j k : ℕ) → k < 16 → RuleOf l j → needs l j k ≡ true → bit word k ≡ false
   pub unpaired : (j : ℕ) → RuleOf l j → (lo ≡ hi) ⊎ ((hi < n) × (pairs l j ≡ false))
 
-none-found : {X : Type 0} (p : X → Bool) (xs : List X) → Each (λ x. p x ≡ false) xs → first p xs ≡ none
+pub none-found : {X : Type 0} (p : X → Bool) (xs : List X) → Each (λ x. p x ≡ false) xs → first p xs ≡ none
 none-found p xs e = ap (first p) (sym (append-nil xs)) ∙ first-skip p xs [] e
 
 -- literals that are not needed are old

@@ -6,13 +6,16 @@ use constraints::Constraint;
 use terms::SetVar;
 use terms::Term;
 ghost use mathlib.Core.Path.{_≡_};
+ghost use mathlib.Core.List.{[]};
 ghost use Prim.Native.Nat.{_^_, _<_};
 ghost use lib.Bits.{bitAnd};
 ghost use Rattle.calculus.specs.Lists.{Each};
+ghost use Rattle.calculus.specs.Invariants.{ConstraintIn};
 ghost use Rattle.branch.specs.Held.{rootOf};
+ghost use Rattle.constraints.specs.Decoded.{decoded};
 ghost use Rattle.rules.specs.Spans.{Spanned};
 ghost use Rattle.rules.specs.Rows.{sets, numbered, HasRow, HasChild, laid, parted, only, child, literalsOf, countOf, denying};
-ghost use Rattle.rules.specs.Words.{Rooted, Lent, Long, Low, rowAt, LowRow, LowSplit, LowChild, LowDenial, forcedWord, dividedWord, metWord, deniedWord, RootBits, missed, EntryBits, Listing, Asked, FitsFor};
+ghost use Rattle.rules.specs.Words.{strangersOf, closedBy, Rooted, Lent, Long, Low, rowAt, LowRow, LowSplit, LowChild, LowDenial, forcedWord, dividedWord, metWord, deniedWord, RootBits, missed, EntryBits, Listing, Asked, FitsFor};
 
 // A literal, by its number: k is "in set k", 8 + k is "out of set k".
 pub struct Literal(pub u8);
@@ -244,19 +247,39 @@ pub fn entry_bits(list: &[u8]) -> u64
     found
 }
 
-// Rules 19 and 20, of a set and its entries. Where the row has all entries, each is a root in the set; a root that is an entry is in its own class. Most searches end there.
+// The roots of a set, as bits, that are no entries of its list. A root that is an entry is in its own class, so rule 20 applies at none but these.
+fn strangers(rows: &[u64], entries: u64, a: SetVar) -> u64
+    requires { ⌜ Long (now rows) × (a .0 < 8) ⌝ }
+    ensures { λ r. ⌜ r ≡ strangersOf (now (rows .entry)) entries a ⌝ }
+{
+    of(rows, Literal(a.0)) & !entries
+}
+
+// A list has no such root.
+pub fn closed(rows: &[u64], entries: u64, l: Constraint) -> bool
+    requires { ⌜ Long (now rows) × ConstraintIn 64 8 (decoded [] l) ⌝ }
+    ensures { λ r. ⌜ r ≡ closedBy (now (rows .entry)) entries l ⌝ }
+{
+    match l {
+        Constraint::Exactly(a) => strangers(rows, entries, a) == 0,
+        Constraint::Interval(a, _, _) => strangers(rows, entries, a) == 0,
+        _ => false,
+    }
+}
+
+// Rules 19 and 20, of a set and its entries. Where the row has all entries, each is a root in the set. Most searches end there.
 fn listing(parents: &[u8], rows: &[u64], list: &[u8], entries: u64, a: SetVar, rule: u8) -> u64
     requires { ⌜ Lent (now parents) (now rows) × EntryBits (now list) entries × (a .0 < 8) ⌝ }
     ensures { λ r. ⌜ Listing (now (parents .entry)) (rowAt (now (rows .entry)) (record { 0 = a .0 })) (now (list .entry)) rule r ⌝ }
 {
-    let row = of(rows, Literal(a.0));
     if rule == 19 {
+        let row = of(rows, Literal(a.0));
         if entries & !row == 0 {
             return 0;
         }
         return first_missing(list, parents, row);
     }
-    let fit = row & !entries;
+    let fit = strangers(rows, entries, a);
     if fit == 0 {
         return 0;
     }

@@ -1,7 +1,7 @@
 -- The turn of constraint i, in `prepare` and in `search`: where it stands, and its entries.
 use mathlib.Core.Path.{_≡_, ap, _∙_}
 use mathlib.Core.List.{List}
-use Prim.Native.Nat.{ℕ, _<_}
+use Prim.Native.Nat.{ℕ, _<_, _≤_}
 use native.Mathlib.Omega.{arith}
 use lib.ListN.{length, getD}
 use lib.Dec.{eqb}
@@ -12,7 +12,7 @@ use Rattle.calculus.specs.Reading.{read}
 use Rattle.calculus.proofs.Bools.{any-map}
 use Rattle.problem.specs.declared.Totals.{Totals}
 use Rattle.problem.specs.Table.{Tabled, Stands, constraintsOf, constraintOf, tableBy, witnessOf}
-use Rattle.problem.proofs.Access.{constraint-count}
+use Rattle.problem.proofs.Access.{opened-sizes, constraint-count}
 use Rattle.places.specs.Places.{entriesOf}
 use Rattle.constraints.specs.declared.Constraint.{Constraint}
 use Rattle.constraints.specs.Decoded.{Unpacked}
@@ -33,6 +33,10 @@ turn-of {bs} {t} {offsets} {witnesses} {i} d l =
       offsets-long = d .sized;
       witnesses-long = d .sized-witnesses;
     }
+
+-- there are at most 64 terms
+pub few-terms : {bs : List ℕ} {t : Totals} {offsets witnesses : List ℕ} → Tabled bs t offsets witnesses → t .terms ≤ 64
+few-terms {bs} {t} {offsets} {witnesses} d = opened-sizes bs (tableBy t offsets witnesses) (d .opened) .2
 
 -- its entries are those of the list that it is unpacked with
 pub entries-by : {bs : List ℕ} {i : ℕ} {es : List ℕ} {l : Constraint} → Unpacked bs i es l → (h : ℕ) → any (λ (e : Term). eqb (e .index) h) (entriesOf (constraintOf bs i)) ≡ any (λ (e : ℕ). eqb e h) es

@@ -9,6 +9,7 @@ use Rattle.calculus.specs.Terms.{term}
 use Rattle.calculus.specs.Branch.{Branch}
 use Rattle.calculus.specs.Reading.{read}
 use Rattle.problem.specs.Table.{Stands, constraintsOf, noConstraint, witnessOf}
+use Rattle.rules.specs.Words.{Shown}
 use Rattle.quiet.specs.Quiet.{Idle}
 
 -- The turn of constraint i: it stands at its offset, and what is read of it is there.
@@ -22,7 +23,11 @@ pub record Turn (bs offsets witnesses : List ℕ) (i : ℕ) : Type 0 where
   pub offsets-long : length offsets ≡ 48
   pub witnesses-long : length witnesses ≡ 48
 
--- A mask is narrowed to a word: each constraint that is left out is idle in every branch with these parents.
-pub record Narrows (split : Bool) (bs parents : List ℕ) (mask word : ℕ) : Type 0 where
+-- Each constraint of a mask has its turn.
+abbrev pub Turns : (bs offsets witnesses : List ℕ) → ℕ → Type 0
+Turns bs offsets witnesses mask = (i : ℕ) → bit mask i ≡ true → Turn bs offsets witnesses i
+
+-- A mask is narrowed to a word: each constraint that is left out is idle in every branch with these parents and rows.
+pub record Narrows (split : Bool) (bs parents rows : List ℕ) (mask word : ℕ) : Type 0 where
   pub within : (i : ℕ) → bit word i ≡ true → bit mask i ≡ true
-  pub idle : (n : ℕ) (b : Branch) → b .parents ≡ parents → (i : ℕ) → i < length (constraintsOf (read bs)) → bit mask i ≡ true → bit word i ≡ false → Idle split n b (getD (constraintsOf (read bs)) i noConstraint)
+  pub idle : (n : ℕ) (b : Branch) → n ≤ 64 → Shown b parents rows → (i : ℕ) → i < length (constraintsOf (read bs)) → bit mask i ≡ true → bit word i ≡ false → Idle split n b (getD (constraintsOf (read bs)) i noConstraint)

@@ -4,6 +4,7 @@ use constraints::Constraint;
 use constraints::decode_at;
 use constraints::list_at;
 use problem::Totals;
+use rules::closed;
 use rules::entry_bits;
 use rules::fitting;
 use rules::row_of;
@@ -13,7 +14,8 @@ use rules::together;
 use terms::SetVar;
 use terms::Term;
 ghost use mathlib.Core.Path.{_≡_};
-ghost use mathlib.Core.Bool.{true, _&&_};
+ghost use mathlib.Core.Bool.{true, false, _&&_};
+ghost use mathlib.Core.List.{List};
 ghost use Prim.Native.Nat.{ℕ, _+_, _^_, _<_};
 ghost use lib.ListN.{length, getD};
 ghost use Rattle.calculus.specs.Lists.{upFrom, any, bit};
@@ -30,7 +32,7 @@ ghost use Rattle.rules.specs.Rows.{HasRow};
 ghost use Rattle.rules.specs.Words.{Rooted, Lent, Shown};
 ghost use Rattle.quiet.specs.Quiet.{Quiet, WordsOf};
 ghost use Rattle.search.specs.Marks.{RuleNeeds, NeedsOf, Marked};
-ghost use Rattle.search.specs.Turns.{Turn, Narrows};
+ghost use Rattle.search.specs.Turns.{Turns, Narrows};
 ghost use Rattle.search.specs.First.{Prepared, Finds};
 
 // What a search looks for, propagation rules or splits, and among which constraints, as bits.
@@ -63,7 +65,7 @@ fn premises(rule: u8, a: SetVar, b: SetVar, c: SetVar) -> u64
     word | bit_at(16)
 }
 
-// The literals, as bits, that the rules of constraint i need. Bit 16 says that one of them needs two facts of a class, bit 17 that it is of kind 4, and bit 18 that it has a split.
+// The literals, as bits, that the rules of constraint i need. Bit 16 says that one of them needs two facts of a class, bit 17 that it is of kind 4, bit 18 that it has a split, and bit 19 that it is a list.
 fn needed(problem: &[u8], i: usize, at: usize, l: Constraint) -> u64
     requires { ⌜ Stands (now problem) i at × (constraintOf (now problem) i ≡ decoded (listed (constraintOf (now problem) i)) l) ⌝ }
     ensures { λ r. ⌜ NeedsOf (constraintOf (now (problem .entry)) i) r ⌝ }
@@ -85,15 +87,15 @@ fn needed(problem: &[u8], i: usize, at: usize, l: Constraint) -> u64
             found
         }
         Constraint::Negated(_, _, _, _, _) => bit_at(18),
-        Constraint::Exactly(a) => bit_at(a.0) | bit_at(18),
-        Constraint::Interval(a, _, _) => bit_at(a.0) | bit_at(18),
+        Constraint::Exactly(a) => bit_at(a.0) | bit_at(18) | bit_at(19),
+        Constraint::Interval(a, _, _) => bit_at(a.0) | bit_at(18) | bit_at(19),
         _ => 0,
     }
 }
 
 // Bit i is set in the words of some literals, which stand from word 48 on, and in those after them.
-fn mark(words: &mut [u64; 67], literals: u64, i: u8)
-    requires { ⌜ (length (now words) ≡ 67) × (literals < 2 ^ 19) × (i < 64) ⌝ }
+fn mark(words: &mut [u64; 68], literals: u64, i: u8)
+    requires { ⌜ (length (now words) ≡ 68) × (literals < 2 ^ 20) × (i < 64) ⌝ }
     ensures { λ _. ⌜ Marked literals i (now (words .entry)) (now (words .exit)) ⌝ }
 {
     let one = bit_at(i);
@@ -105,18 +107,18 @@ fn mark(words: &mut [u64; 67], literals: u64, i: u8)
     }
 }
 
-// What is looked up in a run, as bits. By constraint its entries; by literal at least the constraints that need it; at least those that a merge can wake; those of kind 4; and last at least those with a split. The numbers are 0 to 63.
+// What is looked up in a run, as bits. By constraint its entries; by literal at least the constraints that need it; at least those that a merge can wake; those of kind 4; at least those with a split; and last the lists. The numbers are 0 to 63.
 pub fn prepare<'a>(
     problem: &'a [u8],
     numbers: &'a [u8],
     totals: Totals,
     offsets: &'a [u16],
     witnesses: &'a [u8],
-) -> [u64; 67]
+) -> [u64; 68]
     requires { ⌜ Tabled (now problem) totals (now offsets) (now witnesses) × (now numbers ≡ upFrom 0 64) ⌝ }
     ensures { λ r. ⌜ WordsOf (constraintsOf (read (now (problem .entry)))) r ⌝ }
 {
-    let mut words = [0u64; 67];
+    let mut words = [0u64; 68];
     let count = totals.constraints;
     for i in 0..count {
         let n = i as usize;
@@ -132,7 +134,7 @@ pub fn prepare<'a>(
 
 // The constraints, as bits, that need a literal of the masks.
 pub fn woken(words: &[u64], ins: u8, outs: u8) -> u64
-    requires { ⌜ length (now words) ≡ 67 ⌝ }
+    requires { ⌜ length (now words) ≡ 68 ⌝ }
     ensures { λ r. ⌜ ((i : ℕ) → bit r i ≡ any (λ k. bit (literals ins outs) k && bit (getD (now (words .entry)) (48 + k) 0) i) (upFrom 0 16)) ⌝ }
 {
     let mut found = 0u64;
@@ -145,22 +147,19 @@ pub fn woken(words: &[u64], ins: u8, outs: u8) -> u64
     found
 }
 
-// The constraints of a scope, as bits, without some that have no place: for splits those that have none, else those of kind 4 whose terms are not of one class.
-fn looked_at<'a>(
+// A mask without the constraints of kind 4 whose terms are not of one class: these have no place.
+fn without_apart<'a>(
     problem: &'a [u8],
     offsets: &'a [u16],
     witnesses: &'a [u8],
     words: &'a [u64],
     parents: &'a [u8],
-    scope: Scope,
+    mask: u64,
 ) -> u64
-    requires { ⌜ WordsOf (constraintsOf (read (now problem))) (now words) × Rooted (now parents) × ((i : ℕ) → bit (scope .among) i ≡ true → Turn (now problem) (now offsets) (now witnesses) i) ⌝ }
-    ensures { λ r. ⌜ Narrows (scope .split) (now (problem .entry)) (now (parents .entry)) (scope .among) r ⌝ }
+    requires { ⌜ (length (now words) ≡ 68) × Rooted (now parents) × Turns (now problem) (now offsets) (now witnesses) mask ⌝ }
+    ensures { λ r. ⌜ ((rows : List ℕ) → Narrows false (now (problem .entry)) (now (parents .entry)) rows mask r) ⌝ }
 {
-    let mut kept = scope.among;
-    if scope.split {
-        return kept & words[66];
-    }
+    let mut kept = mask;
     let mut left = kept & words[65];
     while left != 0 {
         let n = u64::trailing_zeros(left) as usize;
@@ -173,6 +172,52 @@ fn looked_at<'a>(
         left = left & (left - 1);
     }
     kept
+}
+
+// A mask without the lists whose sets have no root but entries: these have no place for a split.
+fn without_closed<'a>(
+    problem: &'a [u8],
+    offsets: &'a [u16],
+    witnesses: &'a [u8],
+    words: &'a [u64],
+    rows: &'a [u64],
+    mask: u64,
+) -> u64
+    requires { ⌜ WordsOf (constraintsOf (read (now problem))) (now words) × (length (now rows) ≡ 16) × Turns (now problem) (now offsets) (now witnesses) mask ⌝ }
+    ensures { λ r. ⌜ ((parents : List ℕ) → Narrows true (now (problem .entry)) parents (now (rows .entry)) mask r) ⌝ }
+{
+    let mut kept = mask;
+    let mut left = kept & words[67];
+    while left != 0 {
+        let n = u64::trailing_zeros(left) as usize;
+        let l = decode_at(problem, n, offsets[n] as usize, witnesses[n]);
+        if closed(rows, words[n], l) {
+            kept = kept & !bit_at(n as u8);
+        }
+        left = left & (left - 1);
+    }
+    kept
+}
+
+// The constraints of a scope, as bits, without some that have no place.
+fn looked_at<'a>(
+    problem: &'a [u8],
+    offsets: &'a [u16],
+    witnesses: &'a [u8],
+    words: &'a [u64],
+    parents: &'a [u8],
+    rows: &'a [u64],
+    scope: Scope,
+) -> u64
+    requires { ⌜ WordsOf (constraintsOf (read (now problem))) (now words) × Lent (now parents) (now rows) × Turns (now problem) (now offsets) (now witnesses) (scope .among) ⌝ }
+    ensures { λ r. ⌜ Narrows (scope .split) (now (problem .entry)) (now (parents .entry)) (now (rows .entry)) (scope .among) r ⌝ }
+{
+    let among = scope.among;
+    if scope.split {
+        let split = among & words[66];
+        return without_closed(problem, offsets, witnesses, words, rows, split);
+    }
+    without_apart(problem, offsets, witnesses, words, parents, among)
 }
 
 // The first place where a propagation rule applies, or where a split does. No constraint that the scope leaves out has one. The numbers are 0 to 63, and `words` is what `prepare` answers.
@@ -199,7 +244,7 @@ pub fn search<'a>(
         constraint: Constraint::Same(Term(0), Term(0)),
         left: 0,
     };
-    let mut left = looked_at(problem, offsets, witnesses, words, parents, scope);
+    let mut left = looked_at(problem, offsets, witnesses, words, parents, rows, scope);
     'search: while left != 0 {
         let n = u64::trailing_zeros(left) as usize;
         let at = offsets[n] as usize;

@@ -1,103 +1,27 @@
--- `looked_at` meets its contract. For splits the last word has all constraints with one. Else the loop keeps: what was dropped of the mask is idle. It ends: the mask of what is left to test falls.
-use mathlib.Core.Path.{_∙_, ap}
-use mathlib.Core.Logic.{⊎-elim}
-use native.Mathlib.Omega.{arith}
-use lib.Count.{trailingZeros}
+-- `looked_at` meets its contract: by the two functions that it calls. For splits the constraints that have none were taken off before.
+use mathlib.Core.Path.{sym, _∙_}
+use Prim.Native.Nat.{ℕ}
 use borrow.Author.Needs.{needs}
-use Rattle.bits.proofs.Count.{less-lt, lowest-lt}
-use Rattle.problem.specs.Table.{constraintOf, listed}
-use Rattle.constraints.specs.Decoded.{decoded}
-use Rattle.constraints.proofs.Decoding.{in-range}
-use Rattle.search.specs.Turns.{Turn}
-use Rattle.search.proofs.Needing.{range}
-use Rattle.search.proofs.Narrowing.{Dropping, splits-only, drop-start, lowest-in, drop-none, drop-one}
+use lib.ListN.{getD}
+use Rattle.calculus.specs.Lists.{bit}
+use Rattle.calculus.proofs.Bools.{and-l}
+use Rattle.bits.proofs.Bits.{bit-and}
+use Rattle.search.proofs.Narrowing.{splits-only}
 use Rattle.search.proofs.looked_at.Statement.{statement}
 use Rattle.search.proofs.looked_at.Tie as tie
 
-abbrev Inv-loop : tie.InvT-loop
-Inv-loop problem offsets witnesses words parents kept₀ left₀ kept left = Dropping problem parents kept₀ kept left
+-- the call's start, from where splits are asked for
+abbrev start : tie.Then1 → tie.Start
+start c = c .before .before .before .before .before .before .before
 
-abbrev μ-loop : tie.MeasureT-loop
-μ-loop problem offsets witnesses words parents kept₀ left₀ kept left = left
+without-closed-requires : tie.Need-without-closed-requires
+without-closed-requires c κs = let s = start (c .before) in (s .pre .0, s .pre .1 .long, λ i e. s .pre .2 i (and-l (bit (s .args .scope .among) i) (bit (getD (s .args .words .now) 66 0) i) (sym (bit-and (s .args .scope .among) (getD (s .args .words .now) 66 0) i) ∙ e)))
 
--- ---- the places
+returns : tie.Need-returns
+returns c = let t = c .before .before in let s = start t in rw (t .if1 .taken) (splits-only (s .args .scope .among) (s .pre .0) (c .without-closed .ensures _))
 
--- the call's start, from before the loop; and from a turn of it
-abbrev entry : tie.After-shared-slice-known7 Inv-loop μ-loop → tie.Start Inv-loop μ-loop
-entry c = c .before .before .before .before .before .before .before
-
-abbrev start : tie.In-loop Inv-loop μ-loop → tie.Start Inv-loop μ-loop
-start c = entry (c .before .before)
-
-abbrev asked : tie.After-shared-slice-known6 Inv-loop μ-loop → tie.Start Inv-loop μ-loop
-asked c = c .before .before .before .before .before .before .before
-
--- a turn, from where its constraint is decoded
-abbrev turn : tie.After-decode-at Inv-loop μ-loop → tie.In-loop Inv-loop μ-loop
-turn c = c .before .before .before
-
-there : (c : tie.In-loop Inv-loop μ-loop) → Turn (start c .args .problem .now) (start c .args .offsets .now) (start c .args .witnesses .now) (trailingZeros 64 (c .before .loop .left))
-there c = start c .pre .2 _ (lowest-in (c .before .loop .inv) (c .loop-test .taken))
-
--- ---- the needs
-
-shared-slice-read-result : tie.Need-shared-slice-read-result Inv-loop μ-loop
-shared-slice-read-result c = omega (arith, asked c .pre .0 .long)
-
-returns : tie.Need-returns Inv-loop μ-loop
-returns c = rw (c .before .if1 .taken) (splits-only _ _ (asked c .pre .0))
-
-shared-slice-read-left : tie.Need-shared-slice-read-left Inv-loop μ-loop
-shared-slice-read-left c = omega (arith, entry c .pre .0 .long)
-
-loop-holds : tie.Need-loop-holds Inv-loop μ-loop
-loop-holds c = drop-start _ _ (entry c .args .scope .among) _ (omega arith)
-
-cast-n : tie.Need-cast-n Inv-loop μ-loop
-cast-n c = let t = there c in omega arith
-
-mul-decode-at : tie.Need-mul-decode-at Inv-loop μ-loop
-mul-decode-at c = let t = there c in omega arith
-
-shared-slice-read-decode-at : tie.Need-shared-slice-read-decode-at Inv-loop μ-loop
-shared-slice-read-decode-at c = let t = there (c .before) in omega arith
-
-cast-decode-at : tie.Need-cast-decode-at Inv-loop μ-loop
-cast-decode-at c = let t = there (c .before) in omega arith
-
-shared-slice-read-decode-at-2 : tie.Need-shared-slice-read-decode-at-2 Inv-loop μ-loop
-shared-slice-read-decode-at-2 c = let t = there (c .before .before) in omega arith
-
-decode-at-requires : tie.Need-decode-at-requires Inv-loop μ-loop
-decode-at-requires c κs = let t = there (c .before .before) in (t .stands, t .witness)
-
-enum-known-l : tie.Need-enum-known-l Inv-loop μ-loop
-enum-known-l c = search needs
-
-together-requires : tie.Need-together-requires Inv-loop μ-loop
-together-requires c κs = let d = c .before .before .before in let t = turn d in let r = range (d .decode-at .result) (there t .stands, d .decode-at .ensures) (c .before .l .given .1) in (r .0, r .1, start t .pre .1)
-
-cast-bit-at : tie.Need-cast-bit-at Inv-loop μ-loop
-cast-bit-at c = let t = there (turn (c .before .before .before .before .before)) in omega arith
-
-bit-at-requires : tie.Need-bit-at-requires Inv-loop μ-loop
-bit-at-requires c κs = let t = there (turn (c .before .before .before .before .before)) in omega arith
-
-sub-left : tie.Need-sub-left Inv-loop μ-loop
-sub-left c = omega (arith, turn (c .before) .loop-test .taken)
-
-loop-less : tie.Need-loop-less Inv-loop μ-loop
-loop-less c = let t = turn (c .before) in less-lt (t .before .loop .left) (t .loop-test .taken)
-
-loop-again : tie.Need-loop-again Inv-loop μ-loop
-loop-again c = let d = c .before in let t = turn d in let g = t .before .loop .inv in
-    ⊎-elim
-    (λ w. drop-one g (t .loop-test .taken) (d .decode-at .ensures ∙ ap (decoded (listed (constraintOf _ _))) (w .1 .given .1)) (w .3 .ensures) (w .4 .taken) (w .5 .ensures) (omega arith) (w .6))
-    (⊎-elim (λ w. drop-none g (t .loop-test .taken) (w .5)) (λ w. drop-none g (t .loop-test .taken) (w .1)))
-    (c .match .came)
-
-returns-2 : tie.Need-returns-2 Inv-loop μ-loop
-returns-2 c = rw (c .before .before .before .if1 .left) (c .before .loop .inv .narrows)
+returns-2 : tie.Need-returns-2
+returns-2 c = rw (c .before .if1 .left) (c .without-apart .ensures _)
 
 pub looked-at-spec : {M : Type 1} → statement M
-looked-at-spec = tie.close (tie.spec Inv-loop μ-loop shared-slice-read-result returns shared-slice-read-left loop-holds cast-n mul-decode-at shared-slice-read-decode-at cast-decode-at shared-slice-read-decode-at-2 decode-at-requires enum-known-l together-requires cast-bit-at bit-at-requires sub-left loop-less loop-again returns-2)
+looked-at-spec = tie.close (tie.spec (λ c. search needs) without-closed-requires returns (λ c κs. search needs) returns-2)

@@ -7,7 +7,7 @@ use borrow.Author.Needs.{needs}
 use Rattle.bits.proofs.Count.{lowest-lt, less-lt}
 use Rattle.search.proofs.Narrowing.{quiet-within}
 use Rattle.search.specs.Turns.{Turn}
-use Rattle.search.proofs.Turns.{turn-of}
+use Rattle.search.proofs.Turns.{turn-of, few-terms}
 use Rattle.search.proofs.Finding.{AtMask, AtRule, AtRoot, search-start, in-table, search-over, no-rules, rules-start, next-constraint, asked, no-roots, roots-start, next-rule, next-root, search-hit}
 use Rattle.search.proofs.search.Statement.{statement}
 use Rattle.search.proofs.search.Tie as tie
@@ -69,7 +69,7 @@ there c = turn-of (start c .pre .0 .tabled) (counted c)
 -- ---- the needs
 
 looked-at-requires : tie.Need-looked-at-requires Inv-loop2 μ-loop2 Inv-loop μ-loop Inv-search μ-search
-looked-at-requires c κs = let s = entry c in (s .pre .0 .words-are, s .pre .1 .rooted, λ i e. turn-of (s .pre .0 .tabled) (s .pre .2 i e))
+looked-at-requires c κs = let s = entry c in (s .pre .0 .words-are, s .pre .1, λ i e. turn-of (s .pre .0 .tabled) (s .pre .2 i e))
 
 search-holds : tie.Need-search-holds Inv-loop2 μ-loop2 Inv-loop μ-loop Inv-search μ-search
 search-holds c = let s = entry (c .before) in search-start _ _ (s .args .scope .split) (s .pre .0 .tabled) (omega arith) (λ i e. s .pre .2 i (c .looked-at .ensures .within i e))
@@ -164,10 +164,10 @@ search-again c = let t = turn (c .before) in
     (c .if1 .came)
 
 returns : tie.Need-returns Inv-loop2 μ-loop2 Inv-loop μ-loop Inv-search μ-search
-returns c = let n = c .before .before in λ b z q. search-over (c .before .search .inv) (c .search-test .left) b z (quiet-within _ (entry (n .before) .args .totals .terms) b (n .looked-at .ensures) (z .parents-are) q)
+returns c = let n = c .before .before in λ b z q. search-over (c .before .search .inv) (c .search-test .left) b z (quiet-within _ (entry (n .before) .args .totals .terms) b (few-terms (entry (n .before) .pre .0 .tabled)) (n .looked-at .ensures) z q)
 
 returns-2 : tie.Need-returns-2 Inv-loop2 μ-loop2 Inv-loop μ-loop Inv-search μ-search
-returns-2 c = let t = hit c in λ b z q. search-hit (t .before .search .inv) (t .search-test .taken) (c .before .before .loop2 .inv) (c .before .loop2-test .taken) (c .if3 .taken) b z (quiet-within _ (start t .args .totals .terms) b (narrowed t .looked-at .ensures) (z .parents-are) q)
+returns-2 c = let t = hit c in λ b z q. search-hit (t .before .search .inv) (t .search-test .taken) (c .before .before .loop2 .inv) (c .before .loop2-test .taken) (c .if3 .taken) b z (quiet-within _ (start t .args .totals .terms) b (few-terms (start t .pre .0 .tabled)) (narrowed t .looked-at .ensures) z q)
 
 pub search-spec : {M : Type 1} → statement M
 search-spec = tie.close (tie.spec Inv-loop2 μ-loop2 Inv-loop μ-loop Inv-search μ-search looked-at-requires search-holds cast-n mul-at shared-slice-read-at cast-at shared-slice-read-span-of span-of-requires shared-slice-read-decode-at decode-at-requires list-at-requires mul-bits shared-slice-read-bits loop-holds fitting-requires cast-low loop2-holds cast-if3 shr-if3 cast-number add-h loop2-less loop2-again add-j loop-less loop-again sub-left search-less search-again returns returns-2)
