@@ -1,3 +1,4 @@
+-- `declined` meets its contract: 256 times n is the word of refusal n.
 use borrow.Author.Needs.{needs}
 use Rattle.capi.proofs.AnswerWords.{refusal-word}
 use Rattle.capi.proofs.declined.Statement.{statement}

@@ -1,3 +1,4 @@
+-- `ended` meets its contract: each return is the word of its verdict, by why the run stopped and whether forms were listed. The counts are bounded, so the sums fit.
 use borrow.Author.Needs.{needs}
 use Rattle.capi.proofs.AnswerWords.{spent-word, full-word, false-word, forms-word}
 use Rattle.capi.proofs.ended.Statement.{statement}

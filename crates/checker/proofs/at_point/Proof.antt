@@ -1,3 +1,4 @@
+-- `at_point` meets its contract: each arm is its relation's test at one value. Two Booleans are equal exactly if each implies the other.
 use mathlib.Core.Path.{refl}
 use mathlib.Core.Bool.{_&&_, _||_}
 use Rattle.constraints.specs.declared.Relation.the-variants.{Equal, Union, Disjoint, Subset, Intersection}

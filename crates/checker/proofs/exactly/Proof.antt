@@ -1,3 +1,4 @@
+-- `exactly` meets its contract. The first loop keeps: all members pass exactly if those from i on do. The second keeps: all entries pass exactly if those from e on do. Each ends: what is left to test falls. A return of false rests on one that fails, the last on none being left.
 use borrow.Author.Needs.{needs}
 use mathlib.Core.Path.{_≡_, refl, sym, _∙_}
 use mathlib.Core.List.{map}

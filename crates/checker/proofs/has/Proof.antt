@@ -1,3 +1,4 @@
+-- `has` meets its contract. The loop keeps: the value is among the members exactly if it is among those from i on. It ends: the number of members less i falls. The returns rest on a member found, or on none being left.
 use mathlib.Core.Path.{_≡_, refl, sym, ap, _∙_}
 use Prim.Native.Nat.{_*_, _-_, _/_, _≤_}
 use native.Mathlib.Omega.{arith}

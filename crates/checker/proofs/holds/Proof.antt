@@ -1,3 +1,4 @@
+-- `holds` meets its contract: each arm is the test of its kind of constraint. A problem's constraints name only terms and sets that it has, so their values and members are there.
 use borrow.Author.Needs.{needs}
 use mathlib.Core.Path.{ap, _∙_}
 use mathlib.Core.Bool.{not}

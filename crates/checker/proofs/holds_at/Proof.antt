@@ -1,3 +1,4 @@
+-- `holds_at` meets its contract. The loop keeps: the relation holds at all members exactly if it does at those from i on. It ends: the number of members less i falls. The returns rest on one where it fails, or on none being left.
 use borrow.Author.Needs.{needs}
 use mathlib.Core.Path.{_≡_, refl, sym, _∙_}
 use Prim.Native.Nat.{_*_, _-_, _/_, _≤_}

@@ -1,3 +1,4 @@
+-- `listed` meets its contract. The loop keeps: some entry has the value exactly if one of those from i on has it. It ends: the length less i falls. The returns rest on an entry found, or on none being left.
 use mathlib.Core.Path.{_≡_, refl, sym, ap, _∙_}
 use mathlib.Core.List.{map}
 use Prim.Native.Nat.{_-_, _≤_}

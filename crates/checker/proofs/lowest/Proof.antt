@@ -1,3 +1,4 @@
+-- `lowest` meets its contract. The loop keeps: all constraints before i hold, and the numbers are 0 to 63. It ends: count less i falls. The returns rest on constraint i failing, or on none being left.
 use mathlib.Core.Path.{_≡_, refl, sym, ap, _∙_}
 use Prim.Native.Nat.{_-_, _≤_}
 use native.Mathlib.Omega.{arith}

@@ -1,3 +1,4 @@
+-- `relates` meets its contract: the relation is tested at the members of the first set, the second and the third; the first test that fails decides, else the last.
 use Rattle.checker.proofs.Testing.{said-no, said-yes, stops, goes-on}
 use borrow.Author.Needs.{needs}
 use Rattle.checker.proofs.relates.Statement.{statement}

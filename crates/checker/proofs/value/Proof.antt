@@ -1,3 +1,4 @@
+-- `value` meets its contract: a constant's two bytes are the problem's, a variable's the assignment's. That they are there is required.
 use native.Mathlib.Omega.{arith}
 use Rattle.checker.proofs.Testing.{constant-value, variable-value}
 use borrow.Author.Needs.{needs}

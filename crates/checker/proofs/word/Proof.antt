@@ -1,3 +1,4 @@
+-- `word` meets its contract: two bytes are each below 256, so their number fits 16 bits.
 use mathlib.Core.Path.{refl}
 use Prim.Native.Nat.{_+_}
 use native.Mathlib.Omega.{arith}

@@ -1,3 +1,4 @@
+-- `decode` meets its contract: by `decode_at`, as an opened table has at i where constraint i stands and its witness.
 use borrow.Author.Needs.{needs}
 use Rattle.constraints.proofs.Decoding.{stands-there}
 use Rattle.constraints.proofs.decode.Statement.{statement}

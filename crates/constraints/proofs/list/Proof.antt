@@ -1,3 +1,4 @@
+-- `list` meets its contract: by `list_at`, as an opened table has at i where constraint i stands.
 use borrow.Author.Needs.{needs}
 use Rattle.constraints.proofs.Decoding.{stands-there}
 use Rattle.constraints.proofs.list.Statement.{statement}

@@ -1,3 +1,4 @@
+-- `lay_out` meets its contract. The loop keeps: k sets are laid out, and reading the assignment is reading what is left from `at` on. It ends: sets less k falls. Each refusal rests on reading being refused there, the last return on nothing being left.
 use borrow.Author.Needs.{needs}
 use mathlib.Core.Path.{refl}
 use Prim.Native.Nat.{_-_, _≤_}

@@ -1,3 +1,4 @@
+-- `members` meets its contract: the part begins at the set's start and is twice its count long.
 use borrow.Author.Needs.{needs}
 use lib.ListN.{getD}
 use Rattle.handed.proofs.Layouts.{part-is}

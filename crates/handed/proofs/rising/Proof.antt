@@ -1,3 +1,4 @@
+-- `rising` meets its contract. The loop keeps: all values ascend exactly if those from i on, raised, rise from `least` on. It ends: n less i falls. The returns rest on a value that is too low, or on none being left.
 use mathlib.Core.Path.{_≡_, sym, _∙_}
 use Prim.Native.Nat.{_*_, _-_, _≤_}
 use native.Mathlib.Omega.{arith}

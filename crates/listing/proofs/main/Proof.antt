@@ -1,3 +1,4 @@
+-- `main` has no contract of its own; it gives each call what that requires. The loop keeps: word and form buffer are those of the program call, and the text buffer has its length. So line i is the listing's, and within the buffer. It ends: the number of lines less i falls.
 use borrow.Author.Needs.{needs}
 use mathlib.Core.Path.{_≡_}
 use Prim.Native.Nat.{ℕ, _-_, _≤_}

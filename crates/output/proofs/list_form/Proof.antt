@@ -1,3 +1,4 @@
+-- `list_form` meets its contract: where the record does not fit, the run stops; else the first bytes of what `record` answers are the record, and are put after the others.
 use borrow.Author.Needs.{needs}
 use mathlib.Core.Path.{sym, ap, _∙_}
 use mathlib.Core.List.{[]}

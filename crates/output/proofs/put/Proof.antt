@@ -1,3 +1,4 @@
+-- `put` meets its contract. The loop keeps: the first k of the bytes are written at their place, and the rest of the buffer is as it was. It ends: the number of bytes less k falls. The return rests on all being written.
 use mathlib.Core.Path.{_≡_, refl, _∙_}
 use Prim.Native.Nat.{_-_, _≤_}
 use native.Mathlib.Omega.{arith}

@@ -1,3 +1,4 @@
+-- `line` meets its contract: line 0 is the heading, and after the last there is nothing. Any other is the line of record i - 1, which stands in the form buffer, since it was counted.
 use mathlib.Core.Path.{_≡_, refl, sym, ap, _∙_}
 use Prim.Native.Nat.{suc, _+_, _*_, _-_}
 use native.Mathlib.Omega.{arith}

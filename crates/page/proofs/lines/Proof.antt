@@ -1,3 +1,4 @@
+-- `lines` meets its contract: the word of the program call has the number of forms, and the listing has a line for each after the first.
 use mathlib.Core.Path.{refl}
 use Rattle.page.proofs.LineLaws.{lines-counted}
 use borrow.Author.Needs.{needs}

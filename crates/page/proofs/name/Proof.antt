@@ -1,3 +1,4 @@
+-- `name` meets its contract: each return is the name of its verdict, by number.
 use native.Mathlib.Omega.{arith}
 use borrow.Author.Tests.{eq-eqb, ne-eqb}
 use borrow.Author.Needs.{needs}

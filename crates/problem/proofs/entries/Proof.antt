@@ -1,3 +1,4 @@
+-- `entries` meets its contract: a list's count byte and as many entries stand in the problem, and the part has just these.
 use borrow.Author.Needs.{needs}
 use mathlib.Core.Path.{refl}
 use native.Mathlib.Omega.{arith}

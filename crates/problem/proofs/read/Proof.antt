@@ -1,3 +1,4 @@
+-- `read` meets its contract: reading the whole is reading what is left after each section. So each return refuses the length or a section, or is the table of what follows the sections.
 use borrow.Author.Needs.{needs}
 use Prim.Native.Nat.{_-_}
 use native.Mathlib.Omega.{arith}

@@ -1,3 +1,4 @@
+-- `table_at` meets its contract: each return is what reading gives there, a refusal by the first question that is answered "no", or the table where none is.
 use borrow.Author.Needs.{needs}
 use Rattle.problem.proofs.Reading.{no-constraint-count, many-constraints, constraint-refused, left-over, many-terms, table-made}
 use Rattle.problem.proofs.table_at.Statement.{statement}

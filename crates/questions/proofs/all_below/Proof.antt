@@ -1,3 +1,4 @@
+-- `all_below` meets its contract. The loop keeps: all entries are below n exactly if those from e on are. It ends: the length less e falls. The returns rest on an entry that is not, or on none being left.
 use mathlib.Core.Path.{_≡_, refl, sym, _∙_}
 use Prim.Native.Nat.{_-_, _≤_}
 use native.Mathlib.Omega.{arith}

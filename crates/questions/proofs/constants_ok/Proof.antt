@@ -1,3 +1,4 @@
+-- `constants_ok` meets its contract. The loop keeps: all constants pass exactly if those from i on, raised, rise from `least` to at most 64,768. It ends: k less i falls. The returns rest on one that is too low or too high, or on none being left.
 use mathlib.Core.Path.{_≡_, sym, _∙_}
 use mathlib.Core.Bool.{_&&_}
 use Prim.Native.Nat.{_-_, _≤_}

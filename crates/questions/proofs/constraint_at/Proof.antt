@@ -1,3 +1,4 @@
+-- `constraint_at` meets its contract: each return is what the definition reads of a constraint of that kind. Without a kind byte, or with an unknown kind, both refuse.
 use borrow.Author.Needs.{needs}
 use mathlib.Core.Logic.{inl, inr, ⊎-elim}
 use mathlib.Core.Path.{_≡_, _∙_}

@@ -1,3 +1,4 @@
+-- `gapless_ok` meets its contract: rising constants rise by at least 1 each, so value and place rise alike exactly if none is missing. Where j is not above i, nothing is asked.
 use Prim.Native.Nat.{_+_, _*_}
 use native.Mathlib.Omega.{arith}
 use borrow.Author.Needs.{needs}

@@ -1,3 +1,4 @@
+-- `interval_at` meets its contract: refused as `three_at` refuses, else by question 9 unless both terms are constants and `gapless_ok` says yes.
 use borrow.Author.Needs.{needs}
 use mathlib.Core.Path.{sym, _∙_}
 use Prim.Native.Nat.{_+_}

@@ -1,3 +1,4 @@
+-- `letters_ok` meets its contract. The loop keeps: all letters pass exactly if those from i on rise from `least` to at most hi. It ends: the length less i falls. The returns rest on one that is too low or too high, or on none being left.
 use mathlib.Core.Path.{_≡_, sym, _∙_}
 use Prim.Native.Nat.{_-_, _≤_}
 use native.Mathlib.Omega.{arith}

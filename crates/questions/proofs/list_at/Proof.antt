@@ -1,3 +1,4 @@
+-- `list_at` meets its contract: too few bytes are refused by question 2, a set or a term out of bounds by question 8. Any other list is accepted.
 use borrow.Author.Needs.{needs}
 use mathlib.Core.Path.{refl, _∙_}
 use Prim.Native.Nat.{_+_}

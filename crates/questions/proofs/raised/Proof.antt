@@ -1,3 +1,4 @@
+-- `raised` meets its contract: two bytes are each below 256, so the sums fit 32 bits.
 use borrow.Author.Needs.{needs}
 use mathlib.Core.Path.{ap}
 use Prim.Native.Nat.{ℕ, _+_, _*_, _%_}

@@ -1,3 +1,4 @@
+-- `three_at` meets its contract: too few bytes are refused by question 2, an operand out of bounds by question 8. Else the operands are accepted.
 use borrow.Author.Needs.{needs}
 use mathlib.Core.Path.{_∙_}
 use Prim.Native.Nat.{_+_}

@@ -1,3 +1,4 @@
+-- `form_line` meets its contract. The loop keeps: the first k items are written, in at most 453 bytes each, so there is room. It ends: count less k falls. The return rests on all items being written.
 use borrow.Author.Needs.{needs}
 use mathlib.Core.Path.{_≡_, refl, _∙_}
 use Prim.Native.Nat.{_+_, _*_, _-_, _≤_}

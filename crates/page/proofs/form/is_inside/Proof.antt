@@ -1,3 +1,4 @@
+-- `is_inside` meets its contract: false of a term that is no root; of a root, the set's bit in its inside mask.
 use mathlib.Core.Path.{sym, _∙_}
 use Prim.Native.Nat.{_*_}
 use native.Mathlib.Omega.{arith}

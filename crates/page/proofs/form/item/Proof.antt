@@ -1,3 +1,4 @@
+-- `item` meets its contract: the letter and an equals sign, then a variable's number or a set's members, each right after what was written.
 use mathlib.Core.Path.{sym}
 use native.Mathlib.Omega.{arith}
 use Rattle.page.proofs.Texts.{wrote-length, wrote-more}

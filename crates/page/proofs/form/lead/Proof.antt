@@ -1,3 +1,4 @@
+-- `lead` meets its contract: nothing at the start, else the separator.
 use native.Mathlib.Omega.{arith}
 use Rattle.page.proofs.Members.{wrote-nothing, led-none, led-one}
 use borrow.Author.Needs.{needs}

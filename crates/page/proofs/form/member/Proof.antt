@@ -1,3 +1,4 @@
+-- `member` meets its contract: nothing for a term that is not inside, else the number right after what `lead` wrote.
 use mathlib.Core.Path.{sym, _∙_}
 use native.Mathlib.Omega.{arith}
 use borrow.Author.Tests.{not-true, not-false}

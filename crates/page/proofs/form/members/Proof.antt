@@ -1,3 +1,4 @@
+-- `members` meets its contract. The loop keeps: the members among the first t terms are written, in at most 7 bytes each, so there is room. It ends: terms less t falls. The return rests on t being the number of terms.
 use borrow.Author.Needs.{needs}
 use mathlib.Core.Path.{_≡_, refl, _∙_}
 use Prim.Native.Nat.{_+_, _*_, _-_, _≤_}

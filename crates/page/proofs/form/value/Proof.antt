@@ -1,3 +1,4 @@
+-- `value` meets its contract: of a root that is a constant the two bytes in the problem, of any other 32,001 and its number. A root is at most its term, so the sum fits.
 use Prim.Native.Nat.{_*_}
 use native.Mathlib.Omega.{arith}
 use Rattle.page.proofs.Values.{root-there, root-low, constant-value, constant-there, free-value, known}

@@ -1,3 +1,4 @@
+-- `decimal` meets its contract: the digits of n / 10, and right after them the last. It ends: n / 10 is below n.
 use borrow.Author.Needs.{needs}
 use mathlib.Core.Path.{ap}
 use native.Mathlib.Omega.{arith}

@@ -1,3 +1,4 @@
+-- `number` meets its contract: a word below 32,768 is its own number, any other a minus sign and 65,536 less the word. Both have at most five digits.
 use borrow.Author.Needs.{needs}
 use Prim.Native.Nat.{_-_}
 use native.Mathlib.Omega.{arith}

@@ -1,3 +1,4 @@
+-- `constants_at` meets its contract: what `section_at` refuses is refused, else `constants_ok` decides.
 use borrow.Author.Needs.{needs}
 use mathlib.Core.Path.{sym, _∙_}
 use Prim.Native.Nat.{_-_}

@@ -1,3 +1,4 @@
+-- `constraints_at` meets its contract. The loop keeps: the tables so far, filled from i on by what reading from `next` on gives, are those of all constraints. It ends: m less i falls. The returns rest on a constraint that is refused, or on none being left.
 use borrow.Author.Needs.{needs}
 use mathlib.Core.Path.{_≡_, sym, _∙_}
 use Prim.Native.Nat.{_+_, _-_, _≤_}

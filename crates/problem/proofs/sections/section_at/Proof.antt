@@ -1,3 +1,4 @@
+-- `section_at` meets its contract: no count byte is there, too few bytes follow it, or all are there.
 use borrow.Author.Needs.{needs}
 use Prim.Native.Nat.{_-_, _<_}
 use native.Mathlib.Omega.{arith}

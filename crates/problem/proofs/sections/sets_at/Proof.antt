@@ -1,3 +1,4 @@
+-- `sets_at` meets its contract: what `section_at` refuses is refused, and more than 8 sets are; else `letters_ok` decides.
 use borrow.Author.Needs.{needs}
 use borrow.Author.Tests.{le-leb}
 use Prim.Native.Nat.{_+_, _*_, _-_}
