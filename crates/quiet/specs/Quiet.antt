@@ -45,9 +45,9 @@ pairs (negation r A B C w) j = false
 pairs (exactly A es) j = false
 pairs (interval A x y) j = false
 
--- What is prepared once a run, as bits. By constraint, its entries; by literal, at least the constraints that need it; then at least those that a merge can wake; a word that is free; at least those that have a split; and a last word that is free.
+-- What is prepared once a run, as bits. By constraint, its entries; by literal, at least the constraints that need it; then at least those that a merge can wake; a word of which nothing is said; and last, at least those that have a split.
 pub record WordsOf (ls : List Constraint) (words : List ℕ) : Type 0 where
-  pub long : length words ≡ 68
+  pub long : length words ≡ 67
   pub entries : (i : ℕ) → i < length ls → (h : ℕ) → bit (getD words i 0) h ≡ any (λ (e : Term). eqb (e .index) h) (entriesOf (getD ls i noConstraint))
   pub small : (i : ℕ) → i < length ls → getD words i 0 < 2 ^ 64
   pub needing : (i : ℕ) → i < length ls → (j k : ℕ) → RuleOf (getD ls i noConstraint) j → needs (getD ls i noConstraint) j k ≡ true → bit (getD words (48 + k) 0) i ≡ true

@@ -15,7 +15,7 @@ ghost use Rattle.branch.specs.Held.{rootOf};
 ghost use Rattle.constraints.specs.Decoded.{decoded};
 ghost use Rattle.rules.specs.Spans.{Spanned};
 ghost use Rattle.rules.specs.Rows.{sets, numbered, HasRow, HasChild, laid, parted, only, child, literalsOf, countOf, denying};
-ghost use Rattle.rules.specs.Words.{strangersOf, closedBy, Rooted, Lent, Long, Low, rowAt, LowRow, LowSplit, LowChild, LowDenial, forcedWord, dividedWord, metWord, deniedWord, RootBits, missed, EntryBits, Listing, Asked, FitsFor};
+ghost use Rattle.rules.specs.Words.{unsharedOf, restsBy, Rooted, Lent, Long, Low, rowAt, LowRow, LowSplit, LowChild, LowDenial, forcedWord, dividedWord, metWord, deniedWord, RootBits, missed, EntryBits, Listing, Asked, FitsFor};
 
 // A literal, by its number: k is "in set k", 8 + k is "out of set k".
 pub struct Literal(pub u8);
@@ -247,43 +247,40 @@ pub fn entry_bits(list: &[u8]) -> u64
     found
 }
 
-// The roots of a set, as bits, that are no entries of its list. A root that is an entry is in its own class, so rule 20 applies at none but these.
-fn strangers(rows: &[u64], entries: u64, a: SetVar) -> u64
+// What a list and its set do not share, as bits: for splits the roots of the set that are no entries, else the entries that are no roots of the set. Without any, rule 20 or rule 19 does not apply: a root that is an entry is in its own class.
+fn unshared(rows: &[u64], entries: u64, a: SetVar, split: bool) -> u64
     requires { ⌜ Long (now rows) × (a .0 < 8) ⌝ }
-    ensures { λ r. ⌜ r ≡ strangersOf (now (rows .entry)) entries a ⌝ }
+    ensures { λ r. ⌜ r ≡ unsharedOf (now (rows .entry)) entries split a ⌝ }
 {
-    of(rows, Literal(a.0)) & !entries
+    let row = of(rows, Literal(a.0));
+    if split {
+        return row & !entries;
+    }
+    entries & !row
 }
 
-// A list has no such root.
-pub fn closed(rows: &[u64], entries: u64, l: Constraint) -> bool
-    requires { ⌜ Long (now rows) × ConstraintIn 64 8 (decoded [] l) ⌝ }
-    ensures { λ r. ⌜ r ≡ closedBy (now (rows .entry)) entries l ⌝ }
+// One test shows that no propagation rule of a constraint applies, or no split. Only of constraints of kind 4 and of lists there is such a test.
+pub fn rests(parents: &[u8], rows: &[u64], entries: u64, l: Constraint, split: bool) -> bool
+    requires { ⌜ Lent (now parents) (now rows) × ConstraintIn 64 8 (decoded [] l) ⌝ }
+    ensures { λ r. ⌜ r ≡ restsBy (now (parents .entry)) (now (rows .entry)) entries split l ⌝ }
 {
     match l {
-        Constraint::Exactly(a) => strangers(rows, entries, a) == 0,
-        Constraint::Interval(a, _, _) => strangers(rows, entries, a) == 0,
+        Constraint::Different(t, u) => together(parents, t, u) == 0,
+        Constraint::Exactly(a) => unshared(rows, entries, a, split) == 0,
+        Constraint::Interval(a, _, _) => unshared(rows, entries, a, split) == 0,
         _ => false,
     }
 }
 
-// Rules 19 and 20, of a set and its entries. Where the row has all entries, each is a root in the set. Most searches end there.
+// Rules 19 and 20, of a set and its entries.
 fn listing(parents: &[u8], rows: &[u64], list: &[u8], entries: u64, a: SetVar, rule: u8) -> u64
     requires { ⌜ Lent (now parents) (now rows) × EntryBits (now list) entries × (a .0 < 8) ⌝ }
     ensures { λ r. ⌜ Listing (now (parents .entry)) (rowAt (now (rows .entry)) (record { 0 = a .0 })) (now (list .entry)) rule r ⌝ }
 {
     if rule == 19 {
-        let row = of(rows, Literal(a.0));
-        if entries & !row == 0 {
-            return 0;
-        }
-        return first_missing(list, parents, row);
+        return first_missing(list, parents, of(rows, Literal(a.0)));
     }
-    let fit = strangers(rows, entries, a);
-    if fit == 0 {
-        return 0;
-    }
-    fit & !roots(list, parents)
+    unshared(rows, entries, a, true) & !roots(list, parents)
 }
 
 // The roots, as bits, at which a rule of a constraint applies; of rule 19 only that of the first entry at which it does.

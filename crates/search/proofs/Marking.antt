@@ -34,11 +34,11 @@ use Rattle.search.proofs.Turns.{entries-by}
 
 -- what marking the literals that are left makes of the words now, marking all makes of the words before
 pub record Marking (all i : ℕ) (before words : List ℕ) (left : ℕ) : Type 0 where
-  pub small : left < 2 ^ 20
-  pub long : length words ≡ 68
+  pub small : left < 2 ^ 19
+  pub long : length words ≡ 67
   pub rest : (after : List ℕ) → Marked left i words after → Marked all i before after
 
-pub mark-start : (i : ℕ) {all : ℕ} {words : List ℕ} → all < 2 ^ 20 → length words ≡ 68 → Marking all i words words all
+pub mark-start : (i : ℕ) {all : ℕ} {words : List ℕ} → all < 2 ^ 19 → length words ≡ 67 → Marking all i words words all
 mark-start i h n = record { small = h; long = n; rest = λ after r. r }
 
 module _ {all i left : ℕ} {before words : List ℕ} (g : Marking all i before words left) where
@@ -53,8 +53,8 @@ module _ {all i left : ℕ} {before words : List ℕ} (g : Marking all i before 
     wide : left < 2 ^ 64
     wide = omega (arith, g .small)
 
-    pub low-lt : low < 20
-    low-lt = bit-low 20 left low (g .small) (lowest-set 64 left wide some)
+    pub low-lt : low < 19
+    low-lt = bit-low 19 left low (g .small) (lowest-set 64 left wide some)
 
     pub mark-next : {one : ℕ} → one ≡ 2 ^ i → Marking all i before (set words (48 + low) (bitOr (getD words (48 + low) 0) one)) (bitAnd left (left - 1))
     mark-next {one} p = record { small = omega (arith, g .small, less-lt left some); long = length-set words (48 + low) word ∙ g .long; rest = λ after r. g .rest after (both after r) }
@@ -110,14 +110,14 @@ abbrev FilledAt : List ℕ → List ℕ → ℕ → Type 0
 FilledAt bs words k = ((h : ℕ) → bit (getD words k 0) h ≡ any (λ (e : Term). eqb (e .index) h) (entriesOf (constraintOf bs k))) × (getD words k 0 < 2 ^ 64)
 
 pub record Filled (bs words : List ℕ) (i : ℕ) : Type 0 where
-  pub long : length words ≡ 68
+  pub long : length words ≡ 67
   pub entries : (k : ℕ) → k < i → FilledAt bs words k
   pub needed : (k : ℕ) → k < i → (w : ℕ) × NeedsOf (constraintOf bs k) w × ((h : ℕ) → bit w h ≡ true → bit (getD words (48 + h) 0) k ≡ true)
   pub low : (h k : ℕ) → bit (getD words (48 + h) 0) k ≡ true → k < i
   pub in-problem : i ≤ length (constraintsOf (read bs))
 
-pub fill-start : (bs : List ℕ) → Filled bs (replicate 68 0) 0
-fill-start bs = record { long = refl; entries = λ k l. absurd (omega arith); needed = λ k l. absurd (omega arith); low = λ h k e. clash e (ap (λ (x : ℕ). bit x k) (getD-replicate 68 (48 + h)) ∙ bit-zero k); in-problem = omega arith }
+pub fill-start : (bs : List ℕ) → Filled bs (replicate 67 0) 0
+fill-start bs = record { long = refl; entries = λ k l. absurd (omega arith); needed = λ k l. absurd (omega arith); low = λ h k e. clash e (ap (λ (x : ℕ). bit x k) (getD-replicate 67 (48 + h)) ∙ bit-zero k); in-problem = omega arith }
   where
     getD-replicate : (n j : ℕ) → _≡_ {A = ℕ} (getD (replicate n 0) j 0) 0
     getD-replicate zero j = refl

@@ -1,10 +1,10 @@
--- Which constraints of a mask a search leaves out. One without a split is idle for splits, and so is a list whose set has no root but entries. One of kind 4 is idle where its terms are of two classes. The loops of `without_apart` and `without_closed` drop such constraints, and keep: all that they dropped are idle.
+-- Which constraints of a mask a search leaves out. For splits one is idle that has none. One of kind 4 is idle where its terms are of two classes; a list is, where each entry is a root in its set, or for splits where each root in its set is an entry. The loop of `looked_at` drops such constraints, and keeps: all that it dropped are idle.
 use mathlib.Core.Path.{_≡_, refl, sym, ap, _∙_, subst}
 use mathlib.Core.Logic.{_⊎_, inl, inr}
 use mathlib.Core.Bool.{Bool, true, false, _&&_, _||_, not, and-true, false≢true}
 use mathlib.Core.Option.{none}
 use mathlib.Core.List.{List, [], _∷_, map}
-use Prim.Native.Nat.{ℕ, _-_, _^_, _<_, _≤_}
+use Prim.Native.Nat.{ℕ, zero, suc, _-_, _^_, _<_, _≤_}
 use native.Mathlib.Omega.{arith}
 use native.Mathlib.Decide.{ℕ-discrete}
 use lib.ListN.{length, getD}
@@ -14,9 +14,9 @@ use lib.Count.{trailingZeros}
 use borrow.Author.Tests.{eq-eqb, ne-eqb, eqb-true}
 use Rattle.calculus.specs.Lists.{upFrom, all, any, bit, Each}
 use Rattle.calculus.specs.Terms.{Term, SetVar, term, setVar}
-use Rattle.calculus.specs.Relations.{applies}
+use Rattle.calculus.specs.Relations.{applies, propagation}
 use Rattle.calculus.specs.Meaning.{Constraint, different, exactly, interval, entries}
-use Rattle.calculus.specs.Branch.{Branch, rootAt, known}
+use Rattle.calculus.specs.Branch.{Branch, rootAt, In, known}
 use Rattle.calculus.specs.Invariants.{ConstraintIn}
 use Rattle.calculus.specs.Search.{choose}
 use Rattle.calculus.specs.Reading.{read}
@@ -29,11 +29,14 @@ use Rattle.problem.specs.Table.{constraintsOf, constraintOf, noConstraint, list
 use Rattle.branch.specs.Held.{rootOf}
 use Rattle.branch.specs.Rows as rows
 use Rattle.branch.proofs.Roots.{root-is}
-use Rattle.places.specs.Places.{moveAt, entriesOf, roots, firstAt}
+use Rattle.terms.specs.declared.SetVar.{SetVar as CodedSet}
+use Rattle.places.specs.Places.{spanOf, InSpan, moveAt, entriesOf, roots, firstAt}
 use Rattle.constraints.specs.declared.Constraint.{Constraint as Coded}
 use Rattle.constraints.specs.declared.Constraint.the-variants.{Member, Nonmember, Same, Different, Related, Negated, Exactly, Interval}
 use Rattle.constraints.specs.Decoded.{decoded}
-use Rattle.rules.specs.Words.{strangersOf, closedBy, Shown}
+use Rattle.rules.specs.Words.{unsharedOf, restsBy, Shown}
+use Rattle.rules.proofs.RowBits.{known-in}
+use Rattle.rules.proofs.Listed.{covered}
 use Rattle.quiet.specs.Quiet.{Idle, Quiet, WordsOf}
 use Rattle.quiet.proofs.Sayings.{holds, says, chosen-said}
 use Rattle.quiet.proofs.Keeping.{none-found}
@@ -43,8 +46,8 @@ use Rattle.search.specs.Turns.{Turn, Narrows}
 -- ---- constraints that are idle
 
 -- two terms of two classes
-different-idle : (n : ℕ) (b : Branch) (t u : Term) → ¬ (rootAt b (t .index) ≡ rootAt b (u .index)) → Idle false n b (different t u)
-different-idle n b t u e j v = first-next (λ p. applies (known b) (moveAt b (different t u) j p .1)) (rootAt b (t .index)) [] (rw (ne-eqb (rootAt b (t .index)) (rootAt b (u .index)) e) refl)
+different-idle : (split : Bool) (n : ℕ) (b : Branch) (t u : Term) → ¬ (rootAt b (t .index) ≡ rootAt b (u .index)) → Idle split n b (different t u)
+different-idle split n b t u e j v = first-next (λ p. applies (known b) (moveAt b (different t u) j p .1)) (rootAt b (t .index)) [] (rw (ne-eqb (rootAt b (t .index)) (rootAt b (u .index)) e) refl)
 
 -- two roots without a bit in common differ
 bits-apart : {x y r : ℕ} → r ≡ bitAnd (2 ^ x) (2 ^ y) → r ≡ 0 → ¬ (x ≡ y)
@@ -59,59 +62,79 @@ entry-holds b h r (e ∷ es) t = go (or-cases (eqb (e .index) h) (any (λ (x : T
     go (inl q) ih = or-l (any (all (says b h)) (map (λ (x : Term). holds x ∷ []) es)) (ap (λ (x : Bool). x && true) (eq-eqb h (rootAt b (e .index)) (sym (ap (rootAt b) (eqb-true (e .index) h q) ∙ r))))
     go (inr q) ih = or-r (says b h (holds e) && true) (ih q)
 
--- rule 20, where each root of the set is an entry
-module _ (n : ℕ) (b : Branch) (few : n ≤ 64) (A : SetVar) (low : A .index < 8) (es : List Term) (lines : List ℕ) (of : rows.RowsOf b lines) (word : ℕ) (small : word < 2 ^ 64) (bits : (h : ℕ) → bit word h ≡ any (λ (e : Term). eqb (e .index) h) es) (none-strange : bitAnd (getD lines (A .index) 0) (2 ^ 64 - 1 - word) ≡ 0) where
+-- a list and its set, of which a word and a row say the entries and the roots
+module _ (n : ℕ) (b : Branch) (few : n ≤ 64) (A : SetVar) (low : A .index < 8) (es : List Term) (lines : List ℕ) (of : rows.RowsOf b lines) (word : ℕ) (small : word < 2 ^ 64) (bits : (h : ℕ) → bit word h ≡ any (λ (e : Term). eqb (e .index) h) es) where
   abbrev row : ℕ
   row = getD lines (A .index) 0
 
-  entered : (h : ℕ) → bit row h ≡ true → bit word h ≡ true
-  entered h e = go (bit word h) (sym (ap (λ (x : Bool). x && not (bit word h)) e) ∙ sym (bit-without 64 row word h (of .small (A .index) (omega arith)) small) ∙ ap (λ (m : ℕ). bit m h) none-strange ∙ bit-zero h)
-    where
-      go : (x : Bool) → not x ≡ false → x ≡ true
-      go true q = refl
-      go false q = sym q
+  row-small : row < 2 ^ 64
+  row-small = of .small (A .index) (omega arith)
 
-  chosen-nowhere : (h : ℕ) → h < n → rootAt b h ≡ h → applies (known b) (choose [] b A es (term h)) ≡ false
-  chosen-nowhere h l r = chosen-said b h h r A low es ∙ go (rows.known b (A .index) h) refl
-    where
-      go : (x : Bool) → rows.known b (A .index) h ≡ x → ((rows.known b (A .index) h && true) && not (any (all (says b h)) (map (λ (e : Term). holds e ∷ []) es))) ≡ false
-      go false e = rw e refl
-      go true e =
-          let k : bit row h ≡ true = of .says (A .index) h (omega arith) (omega (arith, few)) ∙ rw (eq-eqb (rootAt b h) h r, e) refl in
-          rw (entry-holds b h r es (sym (bits h) ∙ entered h k), e) refl
+  -- rule 20, where each root of the set is an entry
+  module _ (all-entries : bitAnd row (2 ^ 64 - 1 - word) ≡ 0) where
+    chosen-nowhere : (h : ℕ) → h < n → rootAt b h ≡ h → applies (known b) (choose [] b A es (term h)) ≡ false
+    chosen-nowhere h l r = chosen-said b h h r A low es ∙ go (rows.known b (A .index) h) refl
+      where
+        go : (x : Bool) → rows.known b (A .index) h ≡ x → ((rows.known b (A .index) h && true) && not (any (all (says b h)) (map (λ (e : Term). holds e ∷ []) es))) ≡ false
+        go false e = rw e refl
+        go true e =
+            let k : bit row h ≡ true = of .says (A .index) h (omega arith) (omega (arith, few)) ∙ rw (eq-eqb (rootAt b h) h r, e) refl in
+            rw (entry-holds b h r es (sym (bits h) ∙ covered row word row-small small all-entries h k), e) refl
 
-  list-idle : firstAt n b (exactly A es) 20 ≡ none
-  list-idle = none-found (λ h. applies (known b) (choose [] b A es (term h))) (roots n b) (Each-imp (λ h. (h < n) × (eqb (rootAt b h) h ≡ true)) (λ h. applies (known b) (choose [] b A es (term h)) ≡ false) (roots n b) (λ h q. chosen-nowhere h (q .0) (eqb-true (rootAt b h) h (q .1)))
-      (keep-each (λ h. h < n) (λ h. eqb (rootAt b h) h) (upFrom 0 n) (up-each (λ h. h < n) 0 n (λ h _ l. omega arith))))
+    idle-20 : firstAt n b (exactly A es) 20 ≡ none
+    idle-20 = none-found (λ h. applies (known b) (choose [] b A es (term h))) (roots n b) (Each-imp (λ h. (h < n) × (eqb (rootAt b h) h ≡ true)) (λ h. applies (known b) (choose [] b A es (term h)) ≡ false) (roots n b) (λ h q. chosen-nowhere h (q .0) (eqb-true (rootAt b h) h (q .1)))
+        (keep-each (λ h. h < n) (λ h. eqb (rootAt b h) h) (upFrom 0 n) (up-each (λ h. h < n) 0 n (λ h _ l. omega arith))))
+
+  -- rule 19, where each entry is a root in the set
+  module _ (inside : Each (λ (e : Term). e .index < 64) es) (all-roots : bitAnd word (2 ^ 64 - 1 - row) ≡ 0) where
+    entry-known : (e : Term) → e .index < 64 → bit word (e .index) ≡ true → applies (known b) (propagation 19 [] (In e A)) ≡ false
+    entry-known e l q =
+        let s : (eqb (rootAt b (e .index)) (e .index) && rows.known b (A .index) (e .index)) ≡ true = sym (of .says (A .index) (e .index) (omega arith) l) ∙ covered word row small row-small all-roots (e .index) q in
+        let r : rootAt b (e .index) ≡ e .index = eqb-true (rootAt b (e .index)) (e .index) (and-l (eqb (rootAt b (e .index)) (e .index)) (rows.known b (A .index) (e .index)) s) in
+        let k : known b (In e A) ≡ true = known-in b (e .index) (e .index) r A low ∙ and-r (eqb (rootAt b (e .index)) (e .index)) (rows.known b (A .index) (e .index)) s in
+        rw k refl
+
+    entered : (ts : List Term) → Each (λ (e : Term). e .index < 64) ts → ((h : ℕ) → any (λ (e : Term). eqb (e .index) h) ts ≡ true → bit word h ≡ true) → (p : ℕ) → p < length ts → applies (known b) (propagation 19 [] (In (getD ts p (term 0)) A)) ≡ false
+    entered [] c f p l = absurd (omega arith)
+    entered (t ∷ ts) c f zero l = entry-known t (c .0) (f (t .index) (or-l (any (λ (e : Term). eqb (e .index) (t .index)) ts) (eq-eqb (t .index) (t .index) refl)))
+    entered (t ∷ ts) c f (suc p) l = entered ts (c .1) (λ h q. f h (or-r (eqb (t .index) h) q)) p (omega arith)
+
+    idle-19 : firstAt n b (exactly A es) 19 ≡ none
+    idle-19 = none-found (λ p. applies (known b) (propagation 19 [] (In (getD es p (term 0)) A))) (upFrom 0 (length es)) (up-each (λ p. applies (known b) (propagation 19 [] (In (getD es p (term 0)) A)) ≡ false) 0 (length es) (λ p _ l. entered es inside (λ h q. bits h ∙ q) p (omega arith)))
 
 -- ---- constraint i as it is decoded
 
--- of kind 4
-pub apart-idle : {bs ps offsets witnesses : List ℕ} (lines : List ℕ) {i t u word : ℕ} → Turn bs offsets witnesses i → constraintOf bs i ≡ different (term t) (term u) → word ≡ bitAnd (2 ^ rootOf ps t) (2 ^ rootOf ps u) → word ≡ 0 → (n : ℕ) (b : Branch) → n ≤ 64 → Shown b ps lines → Idle false n b (getD (constraintsOf (read bs)) i noConstraint)
-unfolding constraintOf
-apart-idle lines {t = t} {u} _ is met apart n b few s =
-    let root : (x : ℕ) → rootAt b x ≡ rootOf _ x = λ x. root-is b x ∙ ap (λ (p : List ℕ). rootOf p x) (s .parents-are) in
-    subst (Idle false n b) (sym is) (different-idle n b (term t) (term u) (λ q. bits-apart met apart (sym (root t) ∙ q ∙ root u)))
-
--- a list, or an interval, whose set has no root but entries
-pub closed-idle : {bs offsets witnesses words : List ℕ} (ps : List ℕ) {lines : List ℕ} {i : ℕ} (l : Coded) → Turn bs offsets witnesses i → WordsOf (constraintsOf (read bs)) words → constraintOf bs i ≡ decoded (listed (constraintOf bs i)) l → closedBy lines (getD words i 0) l ≡ true
-    → (n : ℕ) (b : Branch) → n ≤ 64 → Shown b ps lines → Idle true n b (getD (constraintsOf (read bs)) i noConstraint)
-unfolding constraintOf strangersOf
-closed-idle {bs} {offsets} {words = words} ps {lines} {i} l t w is closed n b few s =
-    subst (λ (x : Constraint). ConstraintIn 64 8 x → ((h : ℕ) → bit word h ≡ any (λ (e : Term). eqb (e .index) h) (entriesOf x)) → Idle true n b x) (sym is) (go l (listed (constraintOf bs i)) closed) (in-range bs i (getD offsets i 0) (t .stands)) (w .entries i (t .in-problem))
+-- what one test shows to be at rest is idle
+pub rest-idle : {bs offsets witnesses words : List ℕ} {ps lines : List ℕ} {i : ℕ} (split : Bool) (l : Coded) → Turn bs offsets witnesses i → WordsOf (constraintsOf (read bs)) words → constraintOf bs i ≡ decoded (listed (constraintOf bs i)) l → restsBy ps lines (getD words i 0) split l ≡ true
+    → (n : ℕ) (b : Branch) → n ≤ 64 → Shown b ps lines → Idle split n b (getD (constraintsOf (read bs)) i noConstraint)
+unfolding constraintOf unsharedOf
+rest-idle {bs} {offsets} {words = words} {ps} {lines} {i} split l t w is rest n b few s =
+    subst (λ (x : Constraint). ConstraintIn 64 8 x → ((h : ℕ) → bit word h ≡ any (λ (e : Term). eqb (e .index) h) (entriesOf x)) → Idle split n b x) (sym is) (go l (listed (constraintOf bs i)) rest) (in-range bs i (getD offsets i 0) (t .stands)) (w .entries i (t .in-problem))
   where
     word : ℕ
     word = getD words i 0
 
-    go : (m : Coded) (ts : List Term) → closedBy lines word m ≡ true → ConstraintIn 64 8 (decoded ts m) → ((h : ℕ) → bit word h ≡ any (λ (e : Term). eqb (e .index) h) (entriesOf (decoded ts m))) → Idle true n b (decoded ts m)
+    root : (x : ℕ) → rootAt b x ≡ rootOf ps x
+    root x = root-is b x ∙ ap (λ (p : List ℕ). rootOf p x) (s .parents-are)
+
+    -- a list of set A, and its rules 19 and 20
+    list : (y : Bool) (A : CodedSet) (ts : List Term) → A .0 < 8 → Each (λ (e : Term). e .index < 64) ts → ((h : ℕ) → bit word h ≡ any (λ (e : Term). eqb (e .index) h) ts) → eqb (unsharedOf lines word y A) 0 ≡ true → (j : ℕ) → InSpan (spanOf y (exactly (setVar (A .0)) ts)) j → firstAt n b (exactly (setVar (A .0)) ts) j ≡ none
+    list true A ts c d f k j v = let z : j ≡ 20 = omega (arith, v .0, v .1) in subst (λ (m : ℕ). firstAt n b (exactly (setVar (A .0)) ts) m ≡ none) (sym z) (idle-20 n b few (setVar (A .0)) c ts lines (s .rows-are) word (w .small i (t .in-problem)) f (eqb-true _ 0 k))
+    list false A ts c d f k j v = let z : j ≡ 19 = omega (arith, v .0, v .1) in subst (λ (m : ℕ). firstAt n b (exactly (setVar (A .0)) ts) m ≡ none) (sym z) (idle-19 n b few (setVar (A .0)) c ts lines (s .rows-are) word (w .small i (t .in-problem)) f d (eqb-true _ 0 k))
+
+    interval-is : (y : Bool) (A : CodedSet) (p q : Term) → ((j : ℕ) → InSpan (spanOf y (exactly (setVar (A .0)) (entries p q))) j → firstAt n b (exactly (setVar (A .0)) (entries p q)) j ≡ none) → Idle y n b (interval (setVar (A .0)) p q)
+    interval-is true A p q h j v = h j v
+    interval-is false A p q h j v = h j v
+
+    go : (m : Coded) (ts : List Term) → restsBy ps lines word split m ≡ true → ConstraintIn 64 8 (decoded ts m) → ((h : ℕ) → bit word h ≡ any (λ (e : Term). eqb (e .index) h) (entriesOf (decoded ts m))) → Idle split n b (decoded ts m)
     go (Member x A) ts k c f j v = absurd (false≢true k)
     go (Nonmember x A) ts k c f j v = absurd (false≢true k)
-    go (Same x u) ts k c f j v = absurd (false≢true k)
-    go (Different x u) ts k c f j v = absurd (false≢true k)
+    go (Same x y) ts k c f j v = absurd (false≢true k)
+    go (Different x y) ts k c f j v = different-idle split n b (term (x .0)) (term (y .0)) (λ q. bits-apart refl (eqb-true _ 0 k) (sym (root (x .0)) ∙ q ∙ root (y .0))) j v
     go (Related r A B C) ts k c f j v = absurd (false≢true k)
     go (Negated r A B C x) ts k c f j v = absurd (false≢true k)
-    go (Exactly A) ts k c f j v = let z : j ≡ 20 = omega (arith, v .0, v .1) in subst (λ (m : ℕ). firstAt n b (exactly (setVar (A .0)) ts) m ≡ none) (sym z) (list-idle n b few (setVar (A .0)) (c .0) ts lines (s .rows-are) word (w .small i (t .in-problem)) f (eqb-true _ 0 k))
-    go (Interval A x y) ts k c f j v = let z : j ≡ 20 = omega (arith, v .0, v .1) in subst (λ (m : ℕ). firstAt n b (interval (setVar (A .0)) (term (x .0)) (term (y .0))) m ≡ none) (sym z) (list-idle n b few (setVar (A .0)) (c .0) (entries (term (x .0)) (term (y .0))) lines (s .rows-are) word (w .small i (t .in-problem)) f (eqb-true _ 0 k))
+    go (Exactly A) ts k c f j v = list split A ts (c .0) (c .1) f k j v
+    go (Interval A x y) ts k c f j v = interval-is split A (term (x .0)) (term (y .0)) (list split A (entries (term (x .0)) (term (y .0))) (c .0) (c .1) f k) j v
 
 -- its operands are in range, whatever its entries are
 pub unlisted-in : (l : Coded) (ts : List Term) → ConstraintIn 64 8 (decoded ts l) → ConstraintIn 64 8 (decoded [] l)
@@ -134,15 +157,32 @@ quiet-within split n b {bs} {mask = mask} few w s q i l z = go (bit mask i) refl
     go true y = w .idle n b few s i l y z
     go false y = q i l y
 
--- those with a split, and of these what is left
-pub splits-only : {bs words ps lines : List ℕ} (mask : ℕ) {word : ℕ} → WordsOf (constraintsOf (read bs)) words → Narrows true bs ps lines (bitAnd mask (getD words 66 0)) word → Narrows true bs ps lines mask word
-splits-only {bs} {words} mask {word} w d = record {
-  within = λ i e. and-l (bit mask i) (bit split i) (sym (bit-and mask split i) ∙ d .within i e);
-  idle = λ n b few s i l y z j v. d .idle n b few s i l (bit-and mask split i ∙ rw y (w .splits i l j v)) z j v;
-}
+-- of a scope those with a split, if splits are asked for
+pub record Begins (split : Bool) (bs : List ℕ) (mask kept : ℕ) : Type 0 where
+  pub within : (i : ℕ) → bit kept i ≡ true → bit mask i ≡ true
+  pub idle : (i : ℕ) → i < length (constraintsOf (read bs)) → bit mask i ≡ true → bit kept i ≡ false → (n : ℕ) (b : Branch) → Idle split n b (getD (constraintsOf (read bs)) i noConstraint)
+  pub small : kept < 2 ^ 64
+
+pub begins-all : (split : Bool) (bs : List ℕ) {mask kept : ℕ} → mask < 2 ^ 64 → kept ≡ mask → Begins split bs mask kept
+begins-all split bs {mask} h e = rw e (record { within = λ i y. y; idle = λ i l y z. clash y z; small = h })
+
+pub begins-splits : {bs words : List ℕ} {split : Bool} (mask : ℕ) {kept : ℕ} → split ≡ true → mask < 2 ^ 64 → WordsOf (constraintsOf (read bs)) words → kept ≡ bitAnd mask (getD words 66 0) → Begins split bs mask kept
+begins-splits {bs} {words} mask q h w e = rw (q, e) (record {
+  within = λ i y. and-l (bit mask i) (bit last i) (sym (bit-and mask last i) ∙ y);
+  idle = λ i l y z n b j v. clash (bit-and mask last i ∙ rw y (w .splits i l j v)) z;
+  small = omega (arith, h, and-le-l mask last);
+})
   where
-    split : ℕ
-    split = getD words 66 0
+    last : ℕ
+    last = getD words 66 0
+
+-- what is narrowed from there on is narrowed from the scope
+pub narrows-from : {split : Bool} {bs ps lines : List ℕ} {among mask word : ℕ} → Begins split bs among mask → Narrows split bs ps lines mask word → Narrows split bs ps lines among word
+narrows-from {split} {bs} {ps} {lines} {among} {mask} {word} g d = record { within = λ i y. g .within i (d .within i y); idle = λ n b few s i l y z. go n b few s i l y z (bit mask i) refl }
+  where
+    go : (n : ℕ) (b : Branch) → n ≤ 64 → Shown b ps lines → (i : ℕ) → i < length (constraintsOf (read bs)) → bit among i ≡ true → bit word i ≡ false → (x : Bool) → bit mask i ≡ x → Idle split n b (getD (constraintsOf (read bs)) i noConstraint)
+    go n b few s i l y z true e = d .idle n b few s i l e z
+    go n b few s i l y z false e = g .idle i l y e n b
 
 -- those that were dropped are idle, and those left to test are of the mask
 pub record Dropping (split : Bool) (bs ps lines : List ℕ) (mask kept left : ℕ) : Type 0 where
@@ -151,8 +191,8 @@ pub record Dropping (split : Bool) (bs ps lines : List ℕ) (mask kept left : �
   pub small : left < 2 ^ 64
   pub low : (i : ℕ) → bit left i ≡ true → bit mask i ≡ true
 
-pub drop-start : (split : Bool) (bs ps lines : List ℕ) (mask w : ℕ) → mask < 2 ^ 64 → Dropping split bs ps lines mask mask (bitAnd mask w)
-drop-start split bs ps lines mask w h = record { narrows = record { within = λ i e. e; idle = λ n b few s i l y z. clash y z }; kept-small = h; small = omega (arith, h, and-le-l mask w); low = λ i e. and-l (bit mask i) (bit w i) (sym (bit-and mask w i) ∙ e) }
+pub drop-start : (ps lines : List ℕ) (w : ℕ) {split : Bool} {bs : List ℕ} {among mask : ℕ} → Begins split bs among mask → Dropping split bs ps lines mask mask (bitAnd mask w)
+drop-start ps lines w {mask = mask} g = record { narrows = record { within = λ i e. e; idle = λ n b few s i l y z. clash y z }; kept-small = g .small; small = omega (arith, g .small, and-le-l mask w); low = λ i e. and-l (bit mask i) (bit w i) (sym (bit-and mask w i) ∙ e) }
 
 module _ {split : Bool} {bs ps lines : List ℕ} {mask kept left : ℕ} (d : Dropping split bs ps lines mask kept left) (some : ¬ (left ≡ 0)) where
   abbrev lowest : ℕ

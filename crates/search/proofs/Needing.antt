@@ -159,18 +159,18 @@ pub record Before (l : Constraint) (j word : ℕ) : Type 0 where
   pub small : word < 2 ^ 17
 
 -- a list or an interval of set A
-list-needs : {l : Constraint} (A : ℕ) → A < 8 → ((j k : ℕ) → needs l j k ≡ (eqb j 20 && eqb A k)) → ((j : ℕ) → pairs l j ≡ false) → NeedsOf l (bitOr (bitOr (2 ^ A) (2 ^ 18)) (2 ^ 19))
+list-needs : {l : Constraint} (A : ℕ) → A < 8 → ((j k : ℕ) → needs l j k ≡ (eqb j 20 && eqb A k)) → ((j : ℕ) → pairs l j ≡ false) → NeedsOf l (bitOr (bitOr (2 ^ A) (2 ^ 17)) (2 ^ 18))
 list-needs A h f g = record {
-  rules = λ j r. record { needing = λ k z. subst (λ (m : ℕ). bit (bitOr both (2 ^ 19)) m ≡ true) (eqb-true A k (and-r (eqb j 20) (eqb A k) (sym (f j k) ∙ z))) (bit-left both (2 ^ 19) A (bit-left (2 ^ A) (2 ^ 18) A (bit-own A))); paired = λ z. clash z (g j) };
-  splits = λ j v. bit-left both (2 ^ 19) 18 (bit-right (2 ^ A) (2 ^ 18) 18 (bit-own 18));
-  small = or-lt 20 both (2 ^ 19) (or-lt 20 (2 ^ A) (2 ^ 18) (omega (arith, pow-small A (omega arith))) (omega arith)) (omega arith);
+  rules = λ j r. record { needing = λ k z. subst (λ (m : ℕ). bit (bitOr both (2 ^ 18)) m ≡ true) (eqb-true A k (and-r (eqb j 20) (eqb A k) (sym (f j k) ∙ z))) (bit-left both (2 ^ 18) A (bit-left (2 ^ A) (2 ^ 17) A (bit-own A))); paired = λ z. clash z (g j) };
+  splits = λ j v. bit-right both (2 ^ 18) 18 (bit-own 18);
+  small = or-lt 19 both (2 ^ 18) (or-lt 19 (2 ^ A) (2 ^ 17) (omega (arith, pow-small A (omega arith))) (omega arith)) (omega arith);
 }
   where
     both : ℕ
-    both = bitOr (2 ^ A) (2 ^ 18)
+    both = bitOr (2 ^ A) (2 ^ 17)
 
 -- a constraint whose rules need no literal: without a split, and with one
-nothing-needed : {l : Constraint} (w : ℕ) → w < 2 ^ 20 → ((j k : ℕ) → needs l j k ≡ false) → ((j : ℕ) → pairs l j ≡ false) → ((j : ℕ) → InSpan (splitSpan l) j → bit w 18 ≡ true) → NeedsOf l w
+nothing-needed : {l : Constraint} (w : ℕ) → w < 2 ^ 19 → ((j k : ℕ) → needs l j k ≡ false) → ((j : ℕ) → pairs l j ≡ false) → ((j : ℕ) → InSpan (splitSpan l) j → bit w 18 ≡ true) → NeedsOf l w
 nothing-needed w h f g s = record { rules = λ j r. record { needing = λ k z. clash z (f j k); paired = λ z. clash z (g j) }; splits = s; small = h }
 
 unsplit : {P : Type 0} (j : ℕ) → InSpan (0, 0) j → P
@@ -188,15 +188,15 @@ module _ {bs : List ℕ} {i at : ℕ} (l : Coded) (d : Stands bs i at × (constr
   range e = subst (ConstraintIn 64 8) (matched e) (in-range bs i at (d .0))
 
   pub different-needs : {t u : CodedTerm} → l ≡ Different t u → {v w : ℕ} → v ≡ 2 ^ 16 → w ≡ 2 ^ 17 → NeedsOf own (bitOr v w)
-  different-needs e p q = rw (matched e, p, q) (record { rules = λ j r. record { needing = λ k z. absurd (false≢true z); paired = λ z. bit-left (2 ^ 16) (2 ^ 17) 16 (bit-own 16) }; splits = unsplit; small = or-lt 20 (2 ^ 16) (2 ^ 17) (omega arith) (omega arith) })
+  different-needs e p q = rw (matched e, p, q) (record { rules = λ j r. record { needing = λ k z. absurd (false≢true z); paired = λ z. bit-left (2 ^ 16) (2 ^ 17) 16 (bit-own 16) }; splits = unsplit; small = or-lt 19 (2 ^ 16) (2 ^ 17) (omega arith) (omega arith) })
 
   pub negated-needs : {k : CodedNegation} {A B C : CodedSet} {t : CodedTerm} → l ≡ Negated k A B C t → {w : ℕ} → w ≡ 2 ^ 18 → NeedsOf own w
   negated-needs e q = rw (matched e, q) (nothing-needed (2 ^ 18) (omega arith) (λ j k. refl) (λ j. refl) (λ j v. bit-own 18))
 
-  pub exactly-needs : {A : CodedSet} → l ≡ Exactly A → {v w x : ℕ} → v ≡ 2 ^ A .0 → w ≡ 2 ^ 18 → x ≡ 2 ^ 19 → NeedsOf own (bitOr (bitOr v w) x)
+  pub exactly-needs : {A : CodedSet} → l ≡ Exactly A → {v w x : ℕ} → v ≡ 2 ^ A .0 → w ≡ 2 ^ 17 → x ≡ 2 ^ 18 → NeedsOf own (bitOr (bitOr v w) x)
   exactly-needs {A} e p q r = rw (matched e, p, q, r) (list-needs (A .0) (range e .0) (λ j k. refl) (λ j. refl))
 
-  pub interval-needs : {A : CodedSet} {t u : CodedTerm} → l ≡ Interval A t u → {v w x : ℕ} → v ≡ 2 ^ A .0 → w ≡ 2 ^ 18 → x ≡ 2 ^ 19 → NeedsOf own (bitOr (bitOr v w) x)
+  pub interval-needs : {A : CodedSet} {t u : CodedTerm} → l ≡ Interval A t u → {v w x : ℕ} → v ≡ 2 ^ A .0 → w ≡ 2 ^ 17 → x ≡ 2 ^ 18 → NeedsOf own (bitOr (bitOr v w) x)
   interval-needs {A} e p q r = rw (matched e, p, q, r) (list-needs (A .0) (range e .0) (λ j k. refl) (λ j. refl))
 
   module _ {k : CodedRelation} {A B C : CodedSet} (e : l ≡ Related k A B C) where
@@ -231,7 +231,7 @@ module _ {bs : List ℕ} {i at : ℕ} (l : Coded) (d : Stands bs i at × (constr
       past : Before related j word
       past = rw (matched e) at f
 
-      abbrev needs-with : (w : ℕ) → w < 2 ^ 20 → ((x : ℕ) → bit word x ≡ true → bit w x ≡ true) → ((m : ℕ) → InSpan (splitSpan related) m → RuleNeeds related m w × (bit w 18 ≡ true)) → NeedsOf own w
+      abbrev needs-with : (w : ℕ) → w < 2 ^ 19 → ((x : ℕ) → bit word x ≡ true → bit w x ≡ true) → ((m : ℕ) → InSpan (splitSpan related) m → RuleNeeds related m w × (bit w 18 ≡ true)) → NeedsOf own w
       needs-with w s u z = rw (matched e) (record { rules = λ m r. go m r; splits = λ m v. z m v .1; small = s })
         where
           go : (m : ℕ) → RuleOf related m → RuleNeeds related m w
@@ -242,7 +242,7 @@ module _ {bs : List ℕ} {i at : ℕ} (l : Coded) (d : Stands bs i at × (constr
       no-split n = let q = spans true g in needs-with word (omega (arith, f .small)) (λ x y. y) (λ m v. absurd (omega (arith, q .0, q .1, v .0, v .1)))
 
       pub with-split : {x : Split} → x ≡ parted (operandOf (A .0) (B .0) (C .0)) (numbered 12) → {v w : ℕ} → v ≡ 2 ^ x .0 .0 → w ≡ 2 ^ 18 → NeedsOf own (bitOr (bitOr word v) w)
-      with-split {x} p {v} {w} q o = needs-with all (or-lt 20 (bitOr word v) w (or-lt 20 word v (omega (arith, f .small)) (rw c (omega (arith, pow-small (C .0) (omega (arith, range e .2)))))) (rw o (omega arith))) (λ y z. bit-left (bitOr word v) w y (bit-left word v y z)) (λ m s. (there m s, bit-right (bitOr word v) w 18 (rw o (bit-own 18))))
+      with-split {x} p {v} {w} q o = needs-with all (or-lt 19 (bitOr word v) w (or-lt 19 word v (omega (arith, f .small)) (rw c (omega (arith, pow-small (C .0) (omega (arith, range e .2)))))) (rw o (omega arith))) (λ y z. bit-left (bitOr word v) w y (bit-left word v y z)) (λ m s. (there m s, bit-right (bitOr word v) w 18 (rw o (bit-own 18))))
         where
           all : ℕ
           all = bitOr (bitOr word v) w

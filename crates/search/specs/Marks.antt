@@ -19,7 +19,7 @@ pub record RuleNeeds (l : Constraint) (j word : ℕ) : Type 0 where
 pub record NeedsOf (l : Constraint) (word : ℕ) : Type 0 where
   pub rules : (j : ℕ) → RuleOf l j → RuleNeeds l j word
   pub splits : (j : ℕ) → InSpan (splitSpan l) j → bit word 18 ≡ true
-  pub small : word < 2 ^ 20
+  pub small : word < 2 ^ 19
 
 -- Bit i is set in the words of these literals, which stand from 48 on, and nothing else changes.
 pub record Marked (literals i : ℕ) (before after : List ℕ) : Type 0 where

@@ -4,18 +4,16 @@ use constraints::Constraint;
 use constraints::decode_at;
 use constraints::list_at;
 use problem::Totals;
-use rules::closed;
 use rules::entry_bits;
 use rules::fitting;
+use rules::rests;
 use rules::row_of;
 use rules::span_of;
 use rules::split_of;
-use rules::together;
 use terms::SetVar;
 use terms::Term;
 ghost use mathlib.Core.Path.{_≡_};
-ghost use mathlib.Core.Bool.{true, false, _&&_};
-ghost use mathlib.Core.List.{List};
+ghost use mathlib.Core.Bool.{true, _&&_};
 ghost use Prim.Native.Nat.{ℕ, _+_, _^_, _<_};
 ghost use lib.ListN.{length, getD};
 ghost use Rattle.calculus.specs.Lists.{upFrom, any, bit};
@@ -29,7 +27,7 @@ ghost use Rattle.branch.specs.Rows.{literals};
 ghost use Rattle.constraints.specs.Decoded.{decoded};
 ghost use Rattle.places.specs.Places.{RuleOf};
 ghost use Rattle.rules.specs.Rows.{HasRow};
-ghost use Rattle.rules.specs.Words.{Rooted, Lent, Shown};
+ghost use Rattle.rules.specs.Words.{Lent, Shown};
 ghost use Rattle.quiet.specs.Quiet.{Quiet, WordsOf};
 ghost use Rattle.search.specs.Marks.{RuleNeeds, NeedsOf, Marked};
 ghost use Rattle.search.specs.Turns.{Turns, Narrows};
@@ -65,7 +63,7 @@ fn premises(rule: u8, a: SetVar, b: SetVar, c: SetVar) -> u64
     word | bit_at(16)
 }
 
-// The literals, as bits, that the rules of constraint i need. Bit 16 says that one of them needs two facts of a class, bit 17 that it is of kind 4, bit 18 that it has a split, and bit 19 that it is a list.
+// The literals, as bits, that the rules of constraint i need. Bit 16 says that one of them needs two facts of a class, bit 17 that it may rest, and bit 18 that it has a split.
 fn needed(problem: &[u8], i: usize, at: usize, l: Constraint) -> u64
     requires { ⌜ Stands (now problem) i at × (constraintOf (now problem) i ≡ decoded (listed (constraintOf (now problem) i)) l) ⌝ }
     ensures { λ r. ⌜ NeedsOf (constraintOf (now (problem .entry)) i) r ⌝ }
@@ -87,15 +85,15 @@ fn needed(problem: &[u8], i: usize, at: usize, l: Constraint) -> u64
             found
         }
         Constraint::Negated(_, _, _, _, _) => bit_at(18),
-        Constraint::Exactly(a) => bit_at(a.0) | bit_at(18) | bit_at(19),
-        Constraint::Interval(a, _, _) => bit_at(a.0) | bit_at(18) | bit_at(19),
+        Constraint::Exactly(a) => bit_at(a.0) | bit_at(17) | bit_at(18),
+        Constraint::Interval(a, _, _) => bit_at(a.0) | bit_at(17) | bit_at(18),
         _ => 0,
     }
 }
 
 // Bit i is set in the words of some literals, which stand from word 48 on, and in those after them.
-fn mark(words: &mut [u64; 68], literals: u64, i: u8)
-    requires { ⌜ (length (now words) ≡ 68) × (literals < 2 ^ 20) × (i < 64) ⌝ }
+fn mark(words: &mut [u64; 67], literals: u64, i: u8)
+    requires { ⌜ (length (now words) ≡ 67) × (literals < 2 ^ 19) × (i < 64) ⌝ }
     ensures { λ _. ⌜ Marked literals i (now (words .entry)) (now (words .exit)) ⌝ }
 {
     let one = bit_at(i);
@@ -107,18 +105,18 @@ fn mark(words: &mut [u64; 68], literals: u64, i: u8)
     }
 }
 
-// What is looked up in a run, as bits. By constraint its entries; by literal at least the constraints that need it; at least those that a merge can wake; those of kind 4; at least those with a split; and last the lists. The numbers are 0 to 63.
+// What is looked up in a run, as bits. By constraint its entries; by literal at least the constraints that need it; at least those that a merge can wake; those that may rest; and last at least those with a split. The numbers are 0 to 63.
 pub fn prepare<'a>(
     problem: &'a [u8],
     numbers: &'a [u8],
     totals: Totals,
     offsets: &'a [u16],
     witnesses: &'a [u8],
-) -> [u64; 68]
+) -> [u64; 67]
     requires { ⌜ Tabled (now problem) totals (now offsets) (now witnesses) × (now numbers ≡ upFrom 0 64) ⌝ }
     ensures { λ r. ⌜ WordsOf (constraintsOf (read (now (problem .entry)))) r ⌝ }
 {
-    let mut words = [0u64; 68];
+    let mut words = [0u64; 67];
     let count = totals.constraints;
     for i in 0..count {
         let n = i as usize;
@@ -134,7 +132,7 @@ pub fn prepare<'a>(
 
 // The constraints, as bits, that need a literal of the masks.
 pub fn woken(words: &[u64], ins: u8, outs: u8) -> u64
-    requires { ⌜ length (now words) ≡ 68 ⌝ }
+    requires { ⌜ length (now words) ≡ 67 ⌝ }
     ensures { λ r. ⌜ ((i : ℕ) → bit r i ≡ any (λ k. bit (literals ins outs) k && bit (getD (now (words .entry)) (48 + k) 0) i) (upFrom 0 16)) ⌝ }
 {
     let mut found = 0u64;
@@ -147,59 +145,7 @@ pub fn woken(words: &[u64], ins: u8, outs: u8) -> u64
     found
 }
 
-// A mask without the constraints of kind 4 whose terms are not of one class: these have no place.
-fn without_apart<'a>(
-    problem: &'a [u8],
-    offsets: &'a [u16],
-    witnesses: &'a [u8],
-    words: &'a [u64],
-    parents: &'a [u8],
-    mask: u64,
-) -> u64
-    requires { ⌜ (length (now words) ≡ 68) × Rooted (now parents) × Turns (now problem) (now offsets) (now witnesses) mask ⌝ }
-    ensures { λ r. ⌜ ((rows : List ℕ) → Narrows false (now (problem .entry)) (now (parents .entry)) rows mask r) ⌝ }
-{
-    let mut kept = mask;
-    let mut left = kept & words[65];
-    while left != 0 {
-        let n = u64::trailing_zeros(left) as usize;
-        let l = decode_at(problem, n, offsets[n] as usize, witnesses[n]);
-        if let Constraint::Different(t, u) = l {
-            if together(parents, t, u) == 0 {
-                kept = kept & !bit_at(n as u8);
-            }
-        }
-        left = left & (left - 1);
-    }
-    kept
-}
-
-// A mask without the lists whose sets have no root but entries: these have no place for a split.
-fn without_closed<'a>(
-    problem: &'a [u8],
-    offsets: &'a [u16],
-    witnesses: &'a [u8],
-    words: &'a [u64],
-    rows: &'a [u64],
-    mask: u64,
-) -> u64
-    requires { ⌜ WordsOf (constraintsOf (read (now problem))) (now words) × (length (now rows) ≡ 16) × Turns (now problem) (now offsets) (now witnesses) mask ⌝ }
-    ensures { λ r. ⌜ ((parents : List ℕ) → Narrows true (now (problem .entry)) parents (now (rows .entry)) mask r) ⌝ }
-{
-    let mut kept = mask;
-    let mut left = kept & words[67];
-    while left != 0 {
-        let n = u64::trailing_zeros(left) as usize;
-        let l = decode_at(problem, n, offsets[n] as usize, witnesses[n]);
-        if closed(rows, words[n], l) {
-            kept = kept & !bit_at(n as u8);
-        }
-        left = left & (left - 1);
-    }
-    kept
-}
-
-// The constraints of a scope, as bits, without some that have no place.
+// The constraints of a scope, as bits, without some that have no place: for splits those that have none, and always those that one test shows at rest.
 fn looked_at<'a>(
     problem: &'a [u8],
     offsets: &'a [u16],
@@ -212,12 +158,21 @@ fn looked_at<'a>(
     requires { ⌜ WordsOf (constraintsOf (read (now problem))) (now words) × Lent (now parents) (now rows) × Turns (now problem) (now offsets) (now witnesses) (scope .among) ⌝ }
     ensures { λ r. ⌜ Narrows (scope .split) (now (problem .entry)) (now (parents .entry)) (now (rows .entry)) (scope .among) r ⌝ }
 {
-    let among = scope.among;
-    if scope.split {
-        let split = among & words[66];
-        return without_closed(problem, offsets, witnesses, words, rows, split);
+    let split = scope.split;
+    let mut kept = scope.among;
+    if split {
+        kept = kept & words[66];
     }
-    without_apart(problem, offsets, witnesses, words, parents, among)
+    let mut left = kept & words[65];
+    while left != 0 {
+        let n = u64::trailing_zeros(left) as usize;
+        let l = decode_at(problem, n, offsets[n] as usize, witnesses[n]);
+        if rests(parents, rows, words[n], l, split) {
+            kept = kept & !bit_at(n as u8);
+        }
+        left = left & (left - 1);
+    }
+    kept
 }
 
 // The first place where a propagation rule applies, or where a split does. No constraint that the scope leaves out has one. The numbers are 0 to 63, and `words` is what `prepare` answers.

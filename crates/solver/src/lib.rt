@@ -46,7 +46,7 @@ pub struct Split {
 
 // The constraints, as bits, that an act wakes.
 fn wakes(words: &[u64], a: Act) -> u64
-    requires { ⌜ length (now words) ≡ 68 ⌝ }
+    requires { ⌜ length (now words) ≡ 67 ⌝ }
     ensures { λ r. ⌜ Wakes (now (words .entry)) a r ⌝ }
 {
     match a {

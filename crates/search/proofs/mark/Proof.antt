@@ -14,8 +14,8 @@ Inv-loop words₀ literals i one left₀ words left = Marking literals i words�
 abbrev μ-loop : tie.MeasureT-loop
 μ-loop words₀ literals i one left₀ words left = left
 
--- the lowest literal that is left is below 20
-there : (c : tie.In-loop Inv-loop μ-loop) → trailingZeros 64 (c .before .loop .left) < 20
+-- the lowest literal that is left is below 19
+there : (c : tie.In-loop Inv-loop μ-loop) → trailingZeros 64 (c .before .loop .left) < 19
 there c = low-lt (c .before .loop .inv) (c .loop-test .taken)
 
 bit-at-requires : tie.Need-bit-at-requires Inv-loop μ-loop
