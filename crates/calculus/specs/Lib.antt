@@ -1,3 +1,4 @@
+pub mod Limits
 pub mod Lists
 pub mod Terms
 pub mod Relations
