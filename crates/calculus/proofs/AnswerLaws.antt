@@ -8,6 +8,7 @@ use native.Mathlib.Omega.{arith}
 use native.Mathlib.Nat.{mul-le-mul, mul-suc}
 use lib.ListN.{length, length-append, length-map}
 use lib.IntN.{pos}
+use Rattle.calculus.specs.Limits.{mostSteps}
 use Rattle.calculus.specs.Lists.{Each}
 use Rattle.calculus.specs.Terms.{Term}
 use Rattle.calculus.specs.Branch.{Branch, start}
@@ -76,7 +77,7 @@ forms-few bytes budget forms trace prob q v n c a =
 
 -- steps are at most the budget, and the budget at most 10,000; so the forms fit 32 bits
 module _ (bytes : List ℕ) (budget : ℕ) (forms trace : List ℕ) (prob : Problem) (q : asked bytes budget (length trace) ≡ parsed prob) (v : Verdict) (n c : ℕ) (e : call bytes budget forms trace .answer ≡ ended v n c) where
-  pub steps-few : (n ≤ budget) × (budget ≤ 10000)
+  pub steps-few : (n ≤ budget) × (budget ≤ mostSteps)
   steps-few =
       let k = kept bytes budget forms trace .1 prob q in
       let same : ended (k .0) (k .1) (k .2) ≡ ended v n c = sym (k .3) ∙ e in
@@ -86,7 +87,7 @@ module _ (bytes : List ℕ) (budget : ℕ) (forms trace : List ℕ) (prob : Prob
   pub forms-fit : c ≤ 650001
   forms-fit =
       let terms : suc (termCount prob) ≤ 65 = omega (arith, read-valid bytes prob (asked-parsed bytes budget (length trace) prob q .0) .few-terms) in
-      let steps : n ≤ 10000 = omega (arith, steps-few) in
+      let steps : n ≤ mostSteps = omega (arith, steps-few) in
       omega (arith, forms-few bytes budget forms trace prob q v n c e, mul-le-mul terms steps)
 
 -- ---- the word
@@ -139,7 +140,7 @@ module _ (bytes : List ℕ) (budget : ℕ) (forms trace : List ℕ) where
   unfolding answerWord
   ended-word v n c e = let l = go (call bytes budget forms trace .answer) (asked-of bytes budget forms trace) e in rw e (unpacks (verdictNumber v) 0 n c (verdict-low v) (omega arith) (omega (arith, l .0)) (omega (arith, l .1)))
     where
-      go : (a : Answer) → Asked bytes budget trace a → a ≡ ended v n c → (n ≤ 10000) × (c ≤ 650001)
+      go : (a : Answer) → Asked bytes budget trace a → a ≡ ended v n c → (n ≤ mostSteps) × (c ≤ 650001)
       go a (no m q) z = let w : false ≡ true = cc in absurd (false≢true w)
       go a (yes prob u m d q) z = (omega (arith, steps-few bytes budget forms trace prob q v n c e), forms-fit bytes budget forms trace prob q v n c e)
 

@@ -3,6 +3,7 @@ use mathlib.Core.Path.{_≡_}
 use mathlib.Core.List.{List, []}
 use Prim.Native.Nat.{ℕ, suc, _<_, _≤_}
 use lib.ListN.{length, getD}
+use Rattle.calculus.specs.Limits.{mostBytes, mostSets, mostConstraints, mostTerms}
 use Rattle.calculus.specs.Lists.{Each}
 use Rattle.calculus.specs.Branch.{Branch}
 use Rattle.calculus.specs.Search.{step}
@@ -22,16 +23,16 @@ pub use Rattle.calculus.proofs.AnswerLaws.{steps-few, forms-fit}
 
 module _ (bytes : List ℕ) (prob : Problem) (q : read bytes ≡ parsed prob) where
   -- an offset into an accepted problem is below 4,096, and its end at most that
-  pub bytes-few : length bytes ≤ 4096
+  pub bytes-few : length bytes ≤ mostBytes
   bytes-few = first-question bytes prob q .0
 
-  pub terms-few : termCount prob ≤ 64
+  pub terms-few : termCount prob ≤ mostTerms
   terms-few = read-valid bytes prob q .few-terms
 
-  pub sets-few : setCount prob ≤ 8
+  pub sets-few : setCount prob ≤ mostSets
   sets-few = read-valid bytes prob q .few-sets
 
-  pub constraints-few : length (prob .constraints) ≤ 48
+  pub constraints-few : length (prob .constraints) ≤ mostConstraints
   constraints-few = read-valid bytes prob q .few-constraints
 
   module _ (b : Branch) (F : WellFormed (termCount prob) (constantTerms prob) b) where

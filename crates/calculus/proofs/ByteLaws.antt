@@ -7,6 +7,7 @@ use native.Mathlib.Omega.{arith}
 use native.Mathlib.Nat.{le-trans, pow-le-pow-right}
 use lib.ListN.{length, drop}
 use lib.Dec.{leb}
+use Rattle.calculus.specs.Limits.{mostSets}
 use Rattle.calculus.specs.Lists.{Each}
 use Rattle.calculus.specs.Branch.{Branch, start, rootAt}
 use Rattle.calculus.specs.Search.{Next, solved, step, next}
@@ -56,7 +57,7 @@ tally-bytes n (stepped r ∷ es) e (suc l) q = let ih = tally-bytes n es (e .1) 
 
 module _ (prob : Problem) (acc : Valid prob) where
   mask-byte : (x : ℕ) → x < 2 ^ setCount prob → x < 256
-  mask-byte x l = le-trans l (pow-le-pow-right {n = 2} (omega arith) {i = setCount prob} {j = 8} (acc .few-sets))
+  mask-byte x l = le-trans l (pow-le-pow-right {n = 2} (omega arith) {i = setCount prob} {j = mostSets} (acc .few-sets))
 
   record-bytes : (b : Branch) → Kept prob acc b → (n t : ℕ) → t + n ≤ termCount prob → Bytes (recordFrom b t n)
   record-bytes b p zero t l = tt

@@ -11,6 +11,7 @@ use lib.Seq.{take-at, drop-at, take-append-le, drop-append-le}
 use lib.Dec.{leb}
 use lib.IntN.{ℤ}
 use borrow.Author.Tests.{leb-true, leb-false, le-leb, lt-leb, eq-eqb, eqb-true}
+use Rattle.calculus.specs.Limits.{mostSteps}
 use Rattle.calculus.specs.Terms.{Term}
 use Rattle.calculus.specs.Lists.{Each, Some, here, there, gather, first}
 use Rattle.calculus.specs.Relations.{applies, Negation, unequal, denies}
@@ -128,22 +129,22 @@ listed-app size (suc c) xs ys e =
 
 pub asked-one : (bytes : List ℕ) (budget room : ℕ) (prob : Problem) → read bytes ≡ parsed prob → (asked bytes budget room ≡ parsed prob) ⊎ ((n : ℕ) × (asked bytes budget room ≡ refused n))
 unfolding asked _>>=_ ask
-asked-one bytes budget room prob e = go (leb budget 10000) (leb (4 * budget) room) refl refl
+asked-one bytes budget room prob e = go (leb budget mostSteps) (leb (4 * budget) room) refl refl
   where
-    go : (a b : Bool) → leb budget 10000 ≡ a → leb (4 * budget) room ≡ b → (asked bytes budget room ≡ parsed prob) ⊎ ((n : ℕ) × (asked bytes budget room ≡ refused n))
+    go : (a b : Bool) → leb budget mostSteps ≡ a → leb (4 * budget) room ≡ b → (asked bytes budget room ≡ parsed prob) ⊎ ((n : ℕ) × (asked bytes budget room ≡ refused n))
     go true true p q = inl (rw (e, p, q))
     go true false p q = inr (13, rw (e, p, q))
     go false b p q = inr (12, rw (e, p))
 
 -- what a call that is not refused was asked
-pub asked-parsed : (bytes : List ℕ) (budget room : ℕ) (prob : Problem) → asked bytes budget room ≡ parsed prob → (read bytes ≡ parsed prob) × (budget ≤ 10000) × (4 * budget ≤ room)
+pub asked-parsed : (bytes : List ℕ) (budget room : ℕ) (prob : Problem) → asked bytes budget room ≡ parsed prob → (read bytes ≡ parsed prob) × (budget ≤ mostSteps) × (4 * budget ≤ room)
 unfolding asked
 asked-parsed bytes budget room prob e =
     let a = bind-parsed _ _ prob e in
     let b = ask-parsed 12 _ _ prob (a .2) in
     let c = ask-parsed 13 _ _ prob (b .1) in
     let z : a .0 ≡ prob = cc (c .1) in
-    (a .1 ∙ ap parsed z, leb-true budget 10000 (b .0), leb-true (4 * budget) room (c .0))
+    (a .1 ∙ ap parsed z, leb-true budget mostSteps (b .0), leb-true (4 * budget) room (c .0))
 
 pub record Was (bytes : List ℕ) (budget : ℕ) (forms trace : List ℕ) (prob : Problem) (v : Verdict) (n c : ℕ) : Type 0 where
   pub forms-are : call bytes budget forms trace .forms ≡ over (run prob budget (length forms) .records) forms
@@ -235,16 +236,16 @@ stops bytes budget forms trace prob e n c =
 pub asks : (bytes : List ℕ) (budget room : ℕ) →
     ((n : ℕ) → read bytes ≡ refused n → asked bytes budget room ≡ refused n)
     × ((prob : Problem) → read bytes ≡ parsed prob →
-    (10000 < budget → asked bytes budget room ≡ refused 12)
-    × (budget ≤ 10000 → room < 4 * budget → asked bytes budget room ≡ refused 13)
-    × (budget ≤ 10000 → 4 * budget ≤ room → asked bytes budget room ≡ parsed prob))
+    (mostSteps < budget → asked bytes budget room ≡ refused 12)
+    × (budget ≤ mostSteps → room < 4 * budget → asked bytes budget room ≡ refused 13)
+    × (budget ≤ mostSteps → 4 * budget ≤ room → asked bytes budget room ≡ parsed prob))
 unfolding asked _>>=_ ask
 asks bytes budget room = (
   (λ n q. rw q),
   (λ prob q. (
-    (λ l. rw (q, lt-leb budget 10000 l)),
-    (λ l r. rw (q, le-leb budget 10000 l, lt-leb (4 * budget) room r)),
-    (λ l r. rw (q, le-leb budget 10000 l, le-leb (4 * budget) room r)),
+    (λ l. rw (q, lt-leb budget mostSteps l)),
+    (λ l r. rw (q, le-leb budget mostSteps l, lt-leb (4 * budget) room r)),
+    (λ l r. rw (q, le-leb budget mostSteps l, le-leb (4 * budget) room r)),
   )),
 )
 

@@ -7,6 +7,7 @@ use Prim.Native.Nat.{ℕ, _*_, _<_, _≤_}
 use native.Mathlib.Omega.{arith}
 use native.Mathlib.Decide.{decLt}
 use lib.IntN.{pos}
+use Rattle.calculus.specs.Limits.{mostSteps}
 use Rattle.calculus.specs.Problem.{Problem, values}
 use Rattle.calculus.specs.Encoding.{Bytes, Handed, WrittenAssignment}
 use Rattle.calculus.specs.Reading.{Parsed, parsed, refused, _>>=_, read}
@@ -35,14 +36,14 @@ module _ (bytes : List ℕ) (is : Bytes bytes) where
         at : (m : ℕ) → asked bytes budget room ≡ refused m → FirstNoOfRun bytes budget room m → FirstNoOfRun bytes budget room n
         at m q x = subst (FirstNoOfRun bytes budget room) (one-number (sym q ∙ e)) x
 
-        limits : (prob : Problem) → read bytes ≡ parsed prob → Dec (10000 < budget) → Dec (room < 4 * budget) → FirstNoOfRun bytes budget room n
+        limits : (prob : Problem) → read bytes ≡ parsed prob → Dec (mostSteps < budget) → Dec (room < 4 * budget) → FirstNoOfRun bytes budget room n
         limits prob q (yes l) d = at 12 (asks bytes budget room .1 prob q .0 l) (over-budget prob (reads bytes is prob .0 q) l)
         limits prob q (no l) (yes k) = at 13 (asks bytes budget room .1 prob q .1 (omega arith) k) (short-trace prob (reads bytes is prob .0 q) (omega arith) k)
         limits prob q (no l) (no k) = not-refused (sym (asks bytes budget room .1 prob q .2 (omega arith) (omega arith)) ∙ e)
 
         go : (x : Parsed Problem) → read bytes ≡ x → FirstNoOfRun bytes budget room n
         go (refused m) q = at m (asks bytes budget room .0 m q) (of-problem (questions bytes is m .0 q))
-        go (parsed prob) q = limits prob q (decLt 10000 budget) (decLt room (4 * budget))
+        go (parsed prob) q = limits prob q (decLt mostSteps budget) (decLt room (4 * budget))
 
     run-does : (n : ℕ) → FirstNoOfRun bytes budget room n → asked bytes budget room ≡ refused n
     run-does n (of-problem f) = asks bytes budget room .0 n (questions bytes is n .1 f)

@@ -10,6 +10,7 @@ use lib.ListN.{length}
 use lib.Dec.{leb, eqb, eqb·suc-zero}
 use lib.IntN.{ℤ, pos}
 use borrow.Author.Tests.{leb-true, leb-false, le-leb, lt-leb}
+use Rattle.calculus.specs.Limits.{mostBytes, mostSets, mostConstraints, mostTerms}
 use Rattle.calculus.specs.Lists.{Each, gather}
 use Rattle.calculus.specs.Terms.{term}
 use Rattle.calculus.specs.Relations.{unequal}
@@ -113,52 +114,52 @@ module _ (cs : List ℤ) (up : Rising cs) (ns : List ℕ) where
   module _ (ss : List ℕ) where
     -- after the constraints
     abbrev Ending : ℕ → Saying
-    Ending w = Asking 10 (λ r. eqb (length r) 0) (Asking 11 (λ _. leb w 64) Never)
+    Ending w = Asking 10 (λ r. eqb (length r) 0) (Asking 11 (λ _. leb w mostTerms) Never)
 
     abbrev Fourth : Saying
-    Fourth = After NoByte OneByte (λ m. Asking 6 (λ _. leb m 48) (After (Among cs N (length ss) m) (WrittenConstraints cs N (length ss) N m) (λ a. Ending (a .1))))
+    Fourth = After NoByte OneByte (λ m. Asking 6 (λ _. leb m mostConstraints) (After (Among cs N (length ss) m) (WrittenConstraints cs N (length ss) N m) (λ a. Ending (a .1))))
 
     fourth : Stops (OfConstraints cs ns ss) (readConstraints cs ns ss)
     unfolding readConstraints
     fourth = same-saying (OfConstraints cs ns ss) to from
         (after-stops _ byte-reads byte-stops (λ m. asking-stops 6 _ (λ _ _. after-stops _ (constraints-read cs N (length ss) up (omega arith) m N) (constraints-stop cs N (length ss) up (omega arith) m N) (λ a. asking-stops 10 _ (λ _ _. asking-stops 11 _ (λ _ _. never-stops _))))))
       where
-        over : (m : ℕ) (a : List Constraint × ℕ) (u v : List ℕ) → leb m 48 ≡ true → WrittenConstraints cs N (length ss) N m a u → 0 < length v → OfConstraints cs ns ss (m ∷ (u ++ v)) 10
-        over m a u v t w l = rw (← w .0, w .1) (left-over (a .0) v (omega (arith, leb-true m 48 t, w .0)) (w .2) l)
+        over : (m : ℕ) (a : List Constraint × ℕ) (u v : List ℕ) → leb m mostConstraints ≡ true → WrittenConstraints cs N (length ss) N m a u → 0 < length v → OfConstraints cs ns ss (m ∷ (u ++ v)) 10
+        over m a u v t w l = rw (← w .0, w .1) (left-over (a .0) v (omega (arith, leb-true m mostConstraints t, w .0)) (w .2) l)
 
-        many : (m : ℕ) (a : List Constraint × ℕ) (u v : List ℕ) → leb m 48 ≡ true → WrittenConstraints cs N (length ss) N m a u → v ≡ [] → leb (a .1) 64 ≡ false → OfConstraints cs ns ss (m ∷ (u ++ v)) 11
-        many m a u v t w e f = rw (e, append-nil u, ← w .0, w .1) (many-terms (a .0) (omega (arith, leb-true m 48 t, w .0)) (w .2) (omega (arith, leb-false (a .1) 64 f, last-is cs N (length ss) N (a .1) (a .0) (w .3))))
+        many : (m : ℕ) (a : List Constraint × ℕ) (u v : List ℕ) → leb m mostConstraints ≡ true → WrittenConstraints cs N (length ss) N m a u → v ≡ [] → leb (a .1) mostTerms ≡ false → OfConstraints cs ns ss (m ∷ (u ++ v)) 11
+        many m a u v t w e f = rw (e, append-nil u, ← w .0, w .1) (many-terms (a .0) (omega (arith, leb-true m mostConstraints t, w .0)) (w .2) (omega (arith, leb-false (a .1) mostTerms f, last-is cs N (length ss) N (a .1) (a .0) (w .3))))
 
         to : (bs : List ℕ) (n : ℕ) → Fourth bs n → OfConstraints cs ns ss bs n
         to bs n (now no-byte) = count-missing
-        to bs n (later {v = v} (one {b = m}) (answer-no t)) = too-many m v (leb-false m 48 t)
-        to bs n (later (one {b = m}) (answer-yes t (now (among ls rest {n = k} l r h)))) = in-constraint m k ls rest (leb-true m 48 t) l r h
+        to bs n (later {v = v} (one {b = m}) (answer-no t)) = too-many m v (leb-false m mostConstraints t)
+        to bs n (later (one {b = m}) (answer-yes t (now (among ls rest {n = k} l r h)))) = in-constraint m k ls rest (leb-true m mostConstraints t) l r h
         to bs n (later (one {b = m}) (answer-yes t (later {a = a} {u = u} {v = v} w (answer-no e)))) = over m a u v t w (nonempty v e)
         to bs n (later (one {b = m}) (answer-yes t (later {a = a} {u = u} {v = v} w (answer-yes e (answer-no f))))) = many m a u v t w (empty v e) f
         to bs n (later (one {b = m}) (answer-yes t (later w (answer-yes e (answer-yes f h))))) = absurd h
 
         -- the constraints, and what is said after them
-        after : (ls : List Constraint) (rest : List ℕ) (n : ℕ) → length ls ≤ 48 → Each (Refers cs N (length ss)) ls → Ending (N + witnessCount ls) rest n → Fourth (length ls ∷ (gather encodeConstraint ls ++ rest)) n
+        after : (ls : List Constraint) (rest : List ℕ) (n : ℕ) → length ls ≤ mostConstraints → Each (Refers cs N (length ss)) ls → Ending (N + witnessCount ls) rest n → Fourth (length ls ∷ (gather encodeConstraint ls ++ rest)) n
         after ls rest n l r h =
             let t = renumber cs N (length ss) N ls r in
-            rw (t .1) (later (one {b = length ls}) (answer-yes (le-leb (length ls) 48 l) (later {a = (t .0, N + witnessCount ls)} {u = gather encodeConstraint (t .0)} (t .2, refl, t .3, t .4) h)))
+            rw (t .1) (later (one {b = length ls}) (answer-yes (le-leb (length ls) mostConstraints l) (later {a = (t .0, N + witnessCount ls)} {u = gather encodeConstraint (t .0)} (t .2, refl, t .3, t .4) h)))
 
         from : (bs : List ℕ) (n : ℕ) → OfConstraints cs ns ss bs n → Fourth bs n
         from bs n count-missing = now no-byte
-        from bs n (too-many m rest l) = later (one {b = m}) (answer-no (lt-leb m 48 l))
-        from bs n (in-constraint m k ls rest l i r h) = later (one {b = m}) (answer-yes (le-leb m 48 l) (now (among ls rest i r h)))
+        from bs n (too-many m rest l) = later (one {b = m}) (answer-no (lt-leb m mostConstraints l))
+        from bs n (in-constraint m k ls rest l i r h) = later (one {b = m}) (answer-yes (le-leb m mostConstraints l) (now (among ls rest i r h)))
         from bs n (left-over ls rest l r h) = after ls rest 10 l r (answer-no (full rest h))
-        from bs n (many-terms ls l r h) = subst (λ (z : List ℕ). Fourth (length ls ∷ z) 11) (append-nil (gather encodeConstraint ls)) (after ls [] 11 l r (answer-yes refl (answer-no (lt-leb (N + witnessCount ls) 64 h))))
+        from bs n (many-terms ls l r h) = subst (λ (z : List ℕ). Fourth (length ls ∷ z) 11) (append-nil (gather encodeConstraint ls)) (after ls [] 11 l r (answer-yes refl (answer-no (lt-leb (N + witnessCount ls) mostTerms h))))
 
   abbrev Third : Saying
-  Third = After NoByte OneByte (λ s. After (Fewer s) (Counted s) (λ ss. Asking 5 (λ _. letters 65 90 ss && leb s 8) (OfConstraints cs ns ss)))
+  Third = After NoByte OneByte (λ s. After (Fewer s) (Counted s) (λ ss. Asking 5 (λ _. letters 65 90 ss && leb s mostSets) (OfConstraints cs ns ss)))
 
   third : Stops (FromSets cs ns) (readSets cs ns)
   unfolding readSets
   third = same-saying (FromSets cs ns) to from (after-stops _ byte-reads byte-stops (λ s. after-stops _ (bytes-read s) (bytes-stop s) (λ ss. asking-stops 5 _ (λ _ _. fourth ss))))
     where
-      capitals : (ss : List ℕ) (s : ℕ) → length ss ≡ s → ((letters 65 90 ss && leb s 8) ≡ true) ↔ (Letters 65 90 ss × (length ss ≤ 8))
-      capitals ss s e = (λ t. (letters-are 65 90 ss (and-l (letters 65 90 ss) (leb s 8) t), omega (arith, leb-true s 8 (and-r (letters 65 90 ss) (leb s 8) t))), λ h. and-i (are-letters 65 90 ss (h .0)) (le-leb s 8 (omega (arith, h .1))))
+      capitals : (ss : List ℕ) (s : ℕ) → length ss ≡ s → ((letters 65 90 ss && leb s mostSets) ≡ true) ↔ (Letters 65 90 ss × (length ss ≤ mostSets))
+      capitals ss s e = (λ t. (letters-are 65 90 ss (and-l (letters 65 90 ss) (leb s mostSets) t), omega (arith, leb-true s mostSets (and-r (letters 65 90 ss) (leb s mostSets) t))), λ h. and-i (are-letters 65 90 ss (h .0)) (le-leb s mostSets (omega (arith, h .1))))
 
       to : (bs : List ℕ) (n : ℕ) → Third bs n → FromSets cs ns bs n
       to bs n (now no-byte) = sets-missing [] no-count
@@ -172,7 +173,7 @@ module _ (cs : List ℤ) (up : Rising cs) (ns : List ℕ) where
 
       from : (bs : List ℕ) (n : ℕ) → FromSets cs ns bs n → Third bs n
       from bs n (sets-missing xs m) = few xs m
-      from bs n (no-sets ss rest h) = later (one {b = length ss}) (later (counted {xs = ss} refl) (answer-no (untrue (letters 65 90 ss && leb (length ss) 8) (λ t. h (capitals ss (length ss) refl .0 t)))))
+      from bs n (no-sets ss rest h) = later (one {b = length ss}) (later (counted {xs = ss} refl) (answer-no (untrue (letters 65 90 ss && leb (length ss) mostSets) (λ t. h (capitals ss (length ss) refl .0 t)))))
       from bs n (after-sets ss rest k a b h) = later (one {b = length ss}) (later (counted {xs = ss} refl) (answer-yes (capitals ss (length ss) refl .1 (a, b)) h))
 
 abbrev Second : List ℤ → Saying
@@ -235,9 +236,9 @@ said-first bs n (no-constants cs rest f h) = first-of cs rest 3 f (answer-no (un
 said-first bs n (after-constants cs rest m a b h) = first-of cs rest m (range-fits16 cs (each-at InRange cs (pos 0) b)) (answer-yes (in-order cs .1 (a, b)) h)
 
 pub questions : Questions
-questions bs small n = (λ e. to e (decLe (length bs) 4096), from n)
+questions bs small n = (λ e. to e (decLe (length bs) mostBytes), from n)
   where
-    to : read bs ≡ refused n → Dec (length bs ≤ 4096) → FirstNo bs n
+    to : read bs ≡ refused n → Dec (length bs ≤ mostBytes) → FirstNo bs n
     to e (yes l) = after-length bs n l (first-says bs n small (first .says bs n (sym (read-short bs l) ∙ e)))
     to e (no l) = let r = sym (read-long bs (omega arith)) ∙ e in let z : 1 ≡ n = cc in subst (FirstNo bs) z (too-long bs (omega arith))
 

@@ -8,6 +8,7 @@ use lib.ListN.{length}
 use lib.Dec.{leb}
 use lib.IntN.{ℤ}
 use borrow.Author.Tests.{leb-true, le-leb, lt-leb}
+use Rattle.calculus.specs.Limits.{mostBytes, mostSets, mostConstraints, mostTerms}
 use Rattle.calculus.specs.Meaning.{Constraint}
 use Rattle.calculus.specs.Problem.{Problem, uses, Numbered, Valid}
 use Rattle.calculus.specs.Reading.{parsed, refused, _>>=_, ask, words, ascending, inRange, letters, readConstants, read}
@@ -18,18 +19,18 @@ use Rattle.calculus.proofs.ConstraintLaws.{last-le}
 use Rattle.calculus.proofs.Sections.{whole, First, first-reads}
 
 -- the first question is of the length alone
-pub read-short : (bs : List ℕ) → length bs ≤ 4096 → read bs ≡ readConstants bs
+pub read-short : (bs : List ℕ) → length bs ≤ mostBytes → read bs ≡ readConstants bs
 unfolding read ask _>>=_
-read-short bs l = rw (le-leb (length bs) 4096 l)
+read-short bs l = rw (le-leb (length bs) mostBytes l)
 
-pub read-long : (bs : List ℕ) → 4096 < length bs → read bs ≡ refused 1
+pub read-long : (bs : List ℕ) → mostBytes < length bs → read bs ≡ refused 1
 unfolding read ask _>>=_
-read-long bs l = rw (lt-leb (length bs) 4096 l)
+read-long bs l = rw (lt-leb (length bs) mostBytes l)
 
-pub first-question : (bs : List ℕ) (prob : Problem) → read bs ≡ parsed prob → (length bs ≤ 4096) × (readConstants bs ≡ parsed prob)
-first-question bs prob e = go (decLe (length bs) 4096)
+pub first-question : (bs : List ℕ) (prob : Problem) → read bs ≡ parsed prob → (length bs ≤ mostBytes) × (readConstants bs ≡ parsed prob)
+first-question bs prob e = go (decLe (length bs) mostBytes)
   where
-    go : Dec (length bs ≤ 4096) → (length bs ≤ 4096) × (readConstants bs ≡ parsed prob)
+    go : Dec (length bs ≤ mostBytes) → (length bs ≤ mostBytes) × (readConstants bs ≡ parsed prob)
     go (yes l) = (l, sym (read-short bs l) ∙ e)
     go (no l) = no-answer (sym (read-long bs (omega arith)) ∙ e)
 
@@ -50,12 +51,12 @@ first-valid prob u (then (one {b = k}) (then (counted {xs = ws} e₁) (answered 
       rising = ascending-rising cs (and-l (ascending cs) (inRange cs) t₃);
       range = range-is cs (and-r (ascending cs) (inRange cs) t₃);
       variables = letters-are 97 122 ns t₄;
-      sets = letters-are 65 90 ss (and-l (letters 65 90 ss) (leb s 8) t₅);
-      few-sets = omega (arith, leb-true s 8 (and-r (letters 65 90 ss) (leb s 8) t₅));
-      few-constraints = omega (arith, leb-true m 48 t₆, ls .0);
+      sets = letters-are 65 90 ss (and-l (letters 65 90 ss) (leb s mostSets) t₅);
+      few-sets = omega (arith, leb-true s mostSets (and-r (letters 65 90 ss) (leb s mostSets) t₅));
+      few-constraints = omega (arith, leb-true m mostConstraints t₆, ls .0);
       refers = ls .2;
       numbered = subst (λ (x : ℕ). Numbered N x (a .0)) end (ls .3);
-      few-terms = omega (arith, leb-true (a .1) 64 t₁₁);
+      few-terms = omega (arith, leb-true (a .1) mostTerms t₁₁);
     }
 
 pub read-valid : (bs : List ℕ) (prob : Problem) → read bs ≡ parsed prob → Valid prob

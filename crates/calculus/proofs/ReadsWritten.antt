@@ -7,6 +7,7 @@ use native.Mathlib.Omega.{arith}
 use lib.ListN.{length}
 use lib.IntN.{ℤ}
 use borrow.Author.Tests.{le-leb}
+use Rattle.calculus.specs.Limits.{mostSets, mostConstraints, mostTerms}
 use Rattle.calculus.specs.Lists.{gather}
 use Rattle.calculus.specs.Problem.{Problem, nameable, termCount, setCount, Valid}
 use Rattle.calculus.specs.Encoding.{Bytes, twoBytes, encodeConstraint, encode, Written}
@@ -42,10 +43,10 @@ module _ (prob : Problem) (ok : Valid prob) where
       let z : nameable prob + prob .witnesses - nameable prob ≡ prob .witnesses = omega arith in
       let q : made (prob .constants) (prob .variables) (prob .sets) (prob .constraints, termCount prob) ≡ prob = ap (λ (w : ℕ). record { constants = prob .constants; variables = prob .variables; sets = prob .sets; witnesses = w; constraints = prob .constraints }) z in
       subst (λ (c : Problem). Fourth (prob .constants) (prob .variables) (prob .sets) c bytes₄) q (rw (← append-nil (gather encodeConstraint (prob .constraints)))
-      (then one (answered (le-leb (length (prob .constraints)) 48 (ok .few-constraints)) (then {a = (prob .constraints, termCount prob)} {u = gather encodeConstraint (prob .constraints)} (refl, refl, ok .refers, ok .numbered) (answered (le-leb (termCount prob) 64 (ok .few-terms)) given)))))
+      (then one (answered (le-leb (length (prob .constraints)) mostConstraints (ok .few-constraints)) (then {a = (prob .constraints, termCount prob)} {u = gather encodeConstraint (prob .constraints)} (refl, refl, ok .refers, ok .numbered) (answered (le-leb (termCount prob) mostTerms (ok .few-terms)) given)))))
 
   third : Third (prob .constants) (prob .variables) prob bytes₃
-  third = then one (then (counted refl) (answered (and-i (are-letters 65 90 (prob .sets) (ok .sets)) (le-leb (setCount prob) 8 (ok .few-sets))) fourth))
+  third = then one (then (counted refl) (answered (and-i (are-letters 65 90 (prob .sets) (ok .sets)) (le-leb (setCount prob) mostSets (ok .few-sets))) fourth))
 
   second : Second (prob .constants) prob bytes₂
   second = then one (then (counted refl) (answered (are-letters 97 122 (prob .variables) (ok .variables)) third))

@@ -7,6 +7,7 @@ use native.Mathlib.Omega.{arith}
 use lib.ListN.{length, take}
 use lib.Dec.{leb, eqb, eqb·suc-zero}
 use lib.IntN.{ℤ}
+use Rattle.calculus.specs.Limits.{mostSets, mostConstraints, mostTerms}
 use Rattle.calculus.specs.Meaning.{Constraint}
 use Rattle.calculus.specs.Problem.{Problem, Rising}
 use Rattle.calculus.specs.Reading.{Parsed, parsed, refused, _>>=_, ask, words, ascending, inRange, letters, readConstraints, readSets, readVariables, readConstants}
@@ -57,15 +58,15 @@ module _ (cs : List ℤ) (ns : List ℕ) where
 
   -- what each section and those after it are: the constraints, the sets, the variables, the constants
   abbrev pub Fourth : List ℕ → Problem → List ℕ → Type 0
-  Fourth ss = Then OneByte (λ m. Asked (leb m 48) (Then (WrittenConstraints cs N (length ss) N m) (λ a. Asked (leb (a .1) 64) (Given (made ss a)))))
+  Fourth ss = Then OneByte (λ m. Asked (leb m mostConstraints) (Then (WrittenConstraints cs N (length ss) N m) (λ a. Asked (leb (a .1) mostTerms) (Given (made ss a)))))
 
   abbrev pub Third : Problem → List ℕ → Type 0
-  Third = Then OneByte (λ s. Then (Counted s) (λ ss. Asked (letters 65 90 ss && leb s 8) (Fourth ss)))
+  Third = Then OneByte (λ s. Then (Counted s) (λ ss. Asked (letters 65 90 ss && leb s mostSets) (Fourth ss)))
 
   module _ (up : Rising cs) where
     fourth-reads : (ss : List ℕ) → Recognizes whole (Fourth ss) (readConstraints cs ns ss)
     unfolding readConstraints
-    fourth-reads ss = and-then _ byte-reads (λ m. asks 6 _ (omega arith, omega arith) (λ _. and-then _ (constraints-read cs N (length ss) up (omega arith) m N) (λ a. ends (made ss a) (leb (a .1) 64))))
+    fourth-reads ss = and-then _ byte-reads (λ m. asks 6 _ (omega arith, omega arith) (λ _. and-then _ (constraints-read cs N (length ss) up (omega arith) m N) (λ a. ends (made ss a) (leb (a .1) mostTerms))))
 
     third-reads : Recognizes whole Third (readSets cs ns)
     unfolding readSets

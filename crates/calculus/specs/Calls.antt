@@ -5,6 +5,7 @@ use Prim.Native.Nat.{ℕ, zero, suc, _+_, _*_}
 use lib.ListN.{length, drop}
 use lib.Dec.{leb}
 use lib.IntN.{pos}
+use Rattle.calculus.specs.Limits.{mostSteps}
 use Rattle.calculus.specs.Problem.{Problem, values}
 use Rattle.calculus.specs.Reading.{Parsed, parsed, refused, _>>=_, ask, read}
 use Rattle.calculus.specs.Check.{readAssignment, assignmentOf, lowest}
@@ -41,7 +42,7 @@ over written buffer = written ++ drop (length written) buffer
 unfoldable pub asked : List ℕ → ℕ → ℕ → Parsed Problem
 asked bytes budget room = do
   prob ← read bytes
-  _ ← ask 12 (leb budget 10000)
+  _ ← ask 12 (leb budget mostSteps)
   _ ← ask 13 (leb (4 * budget) room)
   parsed prob
 

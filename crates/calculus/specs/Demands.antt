@@ -7,6 +7,7 @@ use mathlib.Core.List.{List, [], _∷_, _++_}
 use Prim.Native.Nat.{ℕ, zero, suc, _+_, _*_, _/_, _%_, _^_, _≤_, _<_}
 use lib.ListN.{length, getD, take, drop}
 use lib.IntN.{ℤ, pos}
+use Rattle.calculus.specs.Limits.{mostBytes, mostSteps}
 use Rattle.calculus.specs.Lists.{Each, Some, picked, bit}
 use Rattle.calculus.specs.Terms.{Term, SetVar, term, setVar}
 use Rattle.calculus.specs.Meaning.{member, _∈_, Valuation, Holds}
@@ -31,17 +32,17 @@ Reads = (bytes : List ℕ) → Bytes bytes → (prob : Problem) → (read bytes 
 -- A problem is refused with the number of the first question that is answered "no" (specs/Questions tells the questions without the reader). Some of that in few words: 1 is for more than 4,096 bytes, 2 for bytes that are missing, 10 for bytes left over, and there is no number but document 01's.
 abbrev pub Refuses : Type 0
 Refuses = (bytes : List ℕ) →
-    ((read bytes ≡ refused 1) ↔ (4096 < length bytes))
+    ((read bytes ≡ refused 1) ↔ (mostBytes < length bytes))
     × ((n : ℕ) → read bytes ≡ refused n → (1 ≤ n) × (n ≤ 11))
     × ((prob : Problem) → Bytes bytes → Written bytes prob →
     ((k : ℕ) → k < length bytes → read (take k bytes) ≡ refused 2)
-    × ((x : ℕ) (more : List ℕ) → length (bytes ++ (x ∷ more)) ≤ 4096 → read (bytes ++ (x ∷ more)) ≡ refused 10))
+    × ((x : ℕ) (more : List ℕ) → length (bytes ++ (x ∷ more)) ≤ mostBytes → read (bytes ++ (x ∷ more)) ≡ refused 10))
 
 -- A call is refused with the number of the first of its questions that is answered "no"; a run that is not refused is of the problem that is written.
 abbrev pub Refusals : Type 0
 Refusals = (bytes : List ℕ) → Bytes bytes →
     ((budget room n : ℕ) → (asked bytes budget room ≡ refused n) ↔ FirstNoOfRun bytes budget room n)
-    × ((budget room : ℕ) (prob : Problem) → (asked bytes budget room ≡ parsed prob) ↔ (Written bytes prob × (budget ≤ 10000) × (4 * budget ≤ room)))
+    × ((budget room : ℕ) (prob : Problem) → (asked bytes budget room ≡ parsed prob) ↔ (Written bytes prob × (budget ≤ mostSteps) × (4 * budget ≤ room)))
     × ((assignment : List ℕ) → Bytes assignment → (n : ℕ) → (check bytes assignment ≡ declined n) ↔ FirstNoOfCheck bytes assignment n)
 
 -- A refusal writes nothing; otherwise what is written stays inside, and later bytes stay as they were.

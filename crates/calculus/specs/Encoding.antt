@@ -5,6 +5,7 @@ use Prim.Native.Nat.{ℕ, zero, suc, _+_, _*_, _-_, _/_, _%_, _≤_, _<_}
 use lib.ListN.{length}
 use lib.IntN.{ℤ, pos, negsuc}
 use lib.Signed.{_≤ℤ_}
+use Rattle.calculus.specs.Limits.{mostBytes}
 use Rattle.calculus.specs.Lists.{Each, gather}
 use Rattle.calculus.specs.Terms.{Term, SetVar}
 use Rattle.calculus.specs.Relations.{equal, union, disjoint, subset, intersection, unequal}
@@ -45,7 +46,7 @@ encode prob =
 -- these bytes are this problem
 pub record Written (bs : List ℕ) (prob : Problem) : Type 0 where
   pub encoded : bs ≡ encode prob
-  pub short : length bs ≤ 4096
+  pub short : length bs ≤ mostBytes
   pub valid : Valid prob
 
 -- an assignment as it is handed in: a value for each variable, and ascending members for each set

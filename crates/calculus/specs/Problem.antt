@@ -7,6 +7,7 @@ use lib.ListN.{length, getD}
 use lib.Dec.{ltb}
 use lib.IntN.{ℤ, pos, negsuc}
 use lib.Signed.{_≤ℤ_, _<ℤ_}
+use Rattle.calculus.specs.Limits.{mostSets, mostConstraints, mostTerms}
 use Rattle.calculus.specs.Lists.{Each}
 use Rattle.calculus.specs.Terms.{Term, SetVar, termsFrom}
 use Rattle.calculus.specs.Relations.{Relation, equal, union, disjoint, subset, intersection}
@@ -120,8 +121,8 @@ pub record Valid (prob : Problem) : Type 0 where
   pub range : (p : ℕ) → p < constantCount prob → (negsuc 31999 ≤ℤ getD (prob .constants) p (pos 0)) × (getD (prob .constants) p (pos 0) ≤ℤ pos 32000)
   pub variables : Letters 97 122 (prob .variables)
   pub sets : Letters 65 90 (prob .sets)
-  pub few-sets : setCount prob ≤ 8
-  pub few-constraints : length (prob .constraints) ≤ 48
+  pub few-sets : setCount prob ≤ mostSets
+  pub few-constraints : length (prob .constraints) ≤ mostConstraints
   pub refers : Each (Refers (prob .constants) (nameable prob) (setCount prob)) (prob .constraints)
   pub numbered : Numbered (nameable prob) (termCount prob) (prob .constraints)
-  pub few-terms : termCount prob ≤ 64
+  pub few-terms : termCount prob ≤ mostTerms

@@ -6,6 +6,7 @@ use Prim.Native.Nat.{ℕ, _+_, _*_, _≤_, _<_}
 use lib.ListN.{length, getD, replicate}
 use lib.IntN.{ℤ, pos, negsuc}
 use lib.Signed.{_≤ℤ_}
+use Rattle.calculus.specs.Limits.{mostBytes, mostSets, mostConstraints, mostTerms, mostSteps}
 use Rattle.calculus.specs.Lists.{Each, gather}
 use Rattle.calculus.specs.Meaning.{Constraint, _∈_}
 use Rattle.calculus.specs.Problem.{Problem, Rising, Letters, Refers, uses}
@@ -16,8 +17,8 @@ use Rattle.calculus.specs.Reading.{refused, read}
 
 pub data OfLength (Next : List ℕ → ℕ → Type 0) : List ℕ → ℕ → Type 0 where
   -- Is the problem at most 4,096 bytes? 1
-  too-long : (bs : List ℕ) → 4096 < length bs → OfLength Next bs 1
-  after-length : (bs : List ℕ) (n : ℕ) → length bs ≤ 4096 → Next bs n → OfLength Next bs n
+  too-long : (bs : List ℕ) → mostBytes < length bs → OfLength Next bs 1
+  after-length : (bs : List ℕ) (n : ℕ) → length bs ≤ mostBytes → Next bs n → OfLength Next bs n
 
 -- a count, or what it counts, size bytes each, is not all there
 pub data Missing (size : ℕ) : List ℕ → Type 0 where
@@ -46,8 +47,8 @@ pub data OfSets (Next : List ℕ → List ℕ → ℕ → Type 0) : List ℕ →
   -- Are the set variables all there? 2
   sets-missing : (bs : List ℕ) → Missing 1 bs → OfSets Next bs 2
   -- Ascending capitals, at most 8? 5
-  no-sets : (ss rest : List ℕ) → ¬ (Letters 65 90 ss × (length ss ≤ 8)) → OfSets Next (length ss ∷ (ss ++ rest)) 5
-  after-sets : (ss rest : List ℕ) (n : ℕ) → Letters 65 90 ss → length ss ≤ 8 → Next ss rest n → OfSets Next (length ss ∷ (ss ++ rest)) n
+  no-sets : (ss rest : List ℕ) → ¬ (Letters 65 90 ss × (length ss ≤ mostSets)) → OfSets Next (length ss ∷ (ss ++ rest)) 5
+  after-sets : (ss rest : List ℕ) (n : ℕ) → Letters 65 90 ss → length ss ≤ mostSets → Next ss rest n → OfSets Next (length ss ∷ (ss ++ rest)) n
 
 -- ---- one constraint
 
@@ -111,13 +112,13 @@ module _ (cs : List ℤ) (ns ss : List ℕ) where
     -- Is the count of constraints there? 2
     count-missing : OfConstraints [] 2
     -- At most 48? 6
-    too-many : (m : ℕ) (rest : List ℕ) → 48 < m → OfConstraints (m ∷ rest) 6
+    too-many : (m : ℕ) (rest : List ℕ) → mostConstraints < m → OfConstraints (m ∷ rest) 6
     -- Constraints are asked one by one: of this one, after those that pass.
-    in-constraint : (m n : ℕ) (ls : List Constraint) (rest : List ℕ) → m ≤ 48 → length ls < m → Good ls → OfConstraint cs N (length ss) rest n → OfConstraints (m ∷ (gather encodeConstraint ls ++ rest)) n
+    in-constraint : (m n : ℕ) (ls : List Constraint) (rest : List ℕ) → m ≤ mostConstraints → length ls < m → Good ls → OfConstraint cs N (length ss) rest n → OfConstraints (m ∷ (gather encodeConstraint ls ++ rest)) n
     -- Is nothing left after the last constraint? 10
-    left-over : (ls : List Constraint) (rest : List ℕ) → length ls ≤ 48 → Good ls → 0 < length rest → OfConstraints (length ls ∷ (gather encodeConstraint ls ++ rest)) 10
+    left-over : (ls : List Constraint) (rest : List ℕ) → length ls ≤ mostConstraints → Good ls → 0 < length rest → OfConstraints (length ls ∷ (gather encodeConstraint ls ++ rest)) 10
     -- Is T at most 64? 11
-    many-terms : (ls : List Constraint) → length ls ≤ 48 → Good ls → 64 < N + witnessCount ls → OfConstraints (length ls ∷ gather encodeConstraint ls) 11
+    many-terms : (ls : List Constraint) → length ls ≤ mostConstraints → Good ls → mostTerms < N + witnessCount ls → OfConstraints (length ls ∷ gather encodeConstraint ls) 11
 
 -- of these bytes question n is the first that is answered "no"
 abbrev pub FirstNo : List ℕ → ℕ → Type 0
@@ -128,9 +129,9 @@ FirstNo = OfLength (OfConstants (λ cs. OfVariables (λ ns. OfSets (λ ss. OfCon
 pub data FirstNoOfRun (bytes : List ℕ) (budget room : ℕ) : ℕ → Type 0 where
   of-problem : {n : ℕ} → FirstNo bytes n → FirstNoOfRun bytes budget room n
   -- Is the budget at most 10,000? 12
-  over-budget : (prob : Problem) → Written bytes prob → 10000 < budget → FirstNoOfRun bytes budget room 12
+  over-budget : (prob : Problem) → Written bytes prob → mostSteps < budget → FirstNoOfRun bytes budget room 12
   -- Is the trace buffer, of room bytes, at least 4 × budget bytes? 13
-  short-trace : (prob : Problem) → Written bytes prob → budget ≤ 10000 → room < 4 * budget → FirstNoOfRun bytes budget room 13
+  short-trace : (prob : Problem) → Written bytes prob → budget ≤ mostSteps → room < 4 * budget → FirstNoOfRun bytes budget room 13
 
 pub data FirstNoOfCheck (bytes assignment : List ℕ) : ℕ → Type 0 where
   of-problem : {n : ℕ} → FirstNo bytes n → FirstNoOfCheck bytes assignment n

@@ -6,6 +6,7 @@ use lib.ListN.{length, getD, take, drop}
 use lib.Dec.{leb, ltb, eqb}
 use lib.IntN.{ℤ, pos, negsuc, sucℤ}
 use lib.Signed.{ltZ, leZ}
+use Rattle.calculus.specs.Limits.{mostBytes, mostSets, mostConstraints, mostTerms}
 use Rattle.calculus.specs.Lists.{all, upFrom}
 use Rattle.calculus.specs.Terms.{Term, SetVar, term, setVar}
 use Rattle.calculus.specs.Relations.{equal, union, disjoint, subset, intersection, unequal}
@@ -153,17 +154,17 @@ module _ (cs : List ℤ) (N S : ℕ) where
 unfoldable pub readConstraints : List ℤ → List ℕ → List ℕ → List ℕ → Parsed Problem
 readConstraints cs ns ss bs = do
   (m, r₁) ← byte bs
-  _ ← ask 6 (leb m 48)
+  _ ← ask 6 (leb m mostConstraints)
   (ls, w, r₂) ← constraints cs (length cs + length ns) (length ss) (length cs + length ns) m r₁
   _ ← ask 10 (eqb (length r₂) 0)
-  _ ← ask 11 (leb w 64)
+  _ ← ask 11 (leb w mostTerms)
   parsed (record { constants = cs; variables = ns; sets = ss; witnesses = w - (length cs + length ns); constraints = ls })
 
 unfoldable pub readSets : List ℤ → List ℕ → List ℕ → Parsed Problem
 readSets cs ns bs = do
   (s, r₁) ← byte bs
   (ss, r₂) ← bytes s r₁
-  _ ← ask 5 (letters 65 90 ss && leb s 8)
+  _ ← ask 5 (letters 65 90 ss && leb s mostSets)
   readConstraints cs ns ss r₂
 
 unfoldable pub readVariables : List ℤ → List ℕ → Parsed Problem
@@ -182,5 +183,5 @@ readConstants bs = do
 
 unfoldable pub read : List ℕ → Parsed Problem
 read bs = do
-  _ ← ask 1 (leb (length bs) 4096)
+  _ ← ask 1 (leb (length bs) mostBytes)
   readConstants bs
