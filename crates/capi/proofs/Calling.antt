@@ -4,6 +4,7 @@ use mathlib.Core.List.{List, [], _∷_}
 use Prim.Native.Nat.{ℕ, suc, _*_, _≤_, _<_}
 use native.Mathlib.Omega.{arith}
 use lib.ListN.{length, getD}
+use Rattle.calculus.specs.Limits.{mostSteps}
 use Rattle.calculus.specs.Problem.{Problem}
 use Rattle.calculus.specs.Encoding.{Bytes}
 use Rattle.calculus.specs.Reading.{Parsed, parsed, refused, read}
@@ -60,15 +61,15 @@ module _ (bs : List ℕ) (budget : ℕ) (F T : List ℕ) where
   first-refused n e = asks bs budget (length T) .0 n e
 
   module _ (tab : Table) (o : Opened bs tab) where
-    pub over-budget : 10000 < budget → asked bs budget (length T) ≡ refused 12
+    pub over-budget : mostSteps < budget → asked bs budget (length T) ≡ refused 12
     over-budget l = let r = opened bs tab o in asks bs budget (length T) .1 (r .prob) (r .reads) .0 l
 
-    pub short-trace : budget ≤ 10000 → length T < 4 * budget → asked bs budget (length T) ≡ refused 13
+    pub short-trace : budget ≤ mostSteps → length T < 4 * budget → asked bs budget (length T) ≡ refused 13
     short-trace l h = let r = opened bs tab o in asks bs budget (length T) .1 (r .prob) (r .reads) .1 l h
 
     -- ---- a run
 
-    module _ (few : budget ≤ 10000) (room : 4 * budget ≤ length T) (c : Counts) (G U : List ℕ) (r : Runs bs budget F T (state c G U)) where
+    module _ (few : budget ≤ mostSteps) (room : 4 * budget ≤ length T) (c : Counts) (G U : List ℕ) (r : Runs bs budget F T (state c G U)) where
       abbrev prob : Problem
       prob = opened bs tab o .prob
 
@@ -86,7 +87,7 @@ module _ (bs : List ℕ) (budget : ℕ) (F T : List ℕ) where
       called = let y : (c ≡ left outcome F T .counts) × (G ≡ left outcome F T .forms) × (U ≡ left outcome F T .trace) = (ap (λ (s : State). s .counts) ran, ap (λ (s : State). s .forms) ran, ap (λ (s : State). s .trace) ran) in
           rw (accepted, y .0, y .1, y .2, end-number (outcome .end)) refl
 
-      pub run-bounds : (c .steps ≤ 10000) × (c .forms ≤ 650001)
+      pub run-bounds : (c .steps ≤ mostSteps) × (c .forms ≤ 650001)
       run-bounds =
           let e = ap (λ (x : Outcome). x .answer) called in
           let s = steps-few bs budget F T prob accepted _ _ _ e in

@@ -4,8 +4,10 @@ use handed::lay_out;
 use output::Counts;
 use problem::read;
 use solver::solve;
+use terms::MOST_STEPS;
 ghost use mathlib.Core.Path.{_≡_};
 ghost use Prim.Native.Nat.{_≤_};
+ghost use Rattle.calculus.specs.Limits.{mostSteps};
 ghost use Rattle.calculus.specs.Calls.{refusal, ended, verdictOf, answerWord, check, checkWord};
 ghost use Rattle.capi.specs.Contract.{RunContract, Determined, CheckContract};
 ghost use Rattle.output.specs.State.{endOf};
@@ -19,7 +21,7 @@ fn declined(n: u8) -> u64
 
 // The word of a run that ended. A run takes at most 10,000 steps and lists at most 650,001 forms.
 fn ended(c: Counts) -> u64
-    requires { ⌜ (c .steps ≤ 10000) × (c .forms ≤ 650001) ⌝ }
+    requires { ⌜ (c .steps ≤ mostSteps) × (c .forms ≤ 650001) ⌝ }
     ensures { λ r. ⌜ r ≡ answerWord (ended (verdictOf (endOf (c .stop)) (c .forms)) (c .steps) (c .forms)) ⌝ }
 {
     let steps = c.steps as u64;
@@ -52,7 +54,7 @@ pub extern "C" fn fuselinda_run(
     if n != 0 {
         return declined(n);
     }
-    if 10000 < budget {
+    if (MOST_STEPS as u64) < budget {
         return declined(12);
     }
     let steps = budget as usize;

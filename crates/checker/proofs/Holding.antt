@@ -10,6 +10,7 @@ use lib.ListN.{length, getD, drop}
 use lib.IntN.{ℤ}
 use lib.Dec.{eqb}
 use borrow.Author.Tests.{lt-ltb, le-ltb}
+use Rattle.calculus.specs.Limits.{mostSets}
 use Rattle.calculus.specs.Lists.{all, Each}
 use Rattle.calculus.specs.Terms.{Term, SetVar, term, setVar}
 use Rattle.calculus.specs.Meaning.{Constraint, entries, Valuation}
@@ -84,7 +85,7 @@ module _ (bs : List ℕ) (tab : Table) (o : Opened bs tab) (hs : List ℕ) (at :
         entries-readable (subst (Each (λ (t : Term). t .index < tab .constants + tab .variables)) q (terms-each (λ (t : Term). t .index < tab .constants + tab .variables) (x .0) (suc (y .0) - x .0) (λ t g h. omega (arith, r .1, r .2, constants-count))))
 
   -- the members of a set are there
-  pub members-in : (A : ℕ) → A < tab .sets → (A < 8) × (getD (at .starts) A 0 + 2 * getD (at .counts) A 0 ≤ length hs)
+  pub members-in : (A : ℕ) → A < tab .sets → (A < mostSets) × (getD (at .starts) A 0 + 2 * getD (at .counts) A 0 ≤ length hs)
   members-in A l = (omega (arith, l, opened-sizes bs tab o .1), fits .members-there A l)
 
 -- ---- the tests

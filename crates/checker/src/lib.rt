@@ -12,6 +12,7 @@ ghost use mathlib.Core.Path.{_≡_};
 ghost use mathlib.Core.List.{map};
 ghost use Prim.Native.Nat.{_+_, _≤_, _<_};
 ghost use lib.ListN.{length};
+ghost use Rattle.calculus.specs.Limits.{mostTerms};
 ghost use Rattle.calculus.specs.Lists.{upFrom, all, Each};
 ghost use Rattle.calculus.specs.Relations.{holdsAt};
 ghost use Rattle.calculus.specs.Reading.{read, signed, words};
@@ -138,7 +139,7 @@ fn holds<'a>(
     at: Layout,
     i: usize,
 ) -> bool
-    requires { ⌜ Opened (now problem) tab × (now numbers ≡ upFrom 0 64) × (i < tab .constraints) × Fitting tab (now assignment) at ⌝ }
+    requires { ⌜ Opened (now problem) tab × (now numbers ≡ upFrom 0 mostTerms) × (i < tab .constraints) × Fitting tab (now assignment) at ⌝ }
     ensures { λ r. ⌜ r ≡ holds? (seen (now (problem .entry)) tab (now (assignment .entry)) at) (constraintOf (now (problem .entry)) i) ⌝ }
 {
     let l = decode(problem, tab, i);

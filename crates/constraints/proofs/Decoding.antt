@@ -9,6 +9,7 @@ use lib.Seq.{getD-drop}
 use lib.IntN.{ℤ}
 use types.Run.{OneOf, miss}
 use denote.Enum.Declared.{tagOf}
+use Rattle.calculus.specs.Limits.{mostBytes, mostSets, mostConstraints, mostTerms}
 use Rattle.calculus.specs.Lists.{Each, upFrom}
 use Rattle.calculus.specs.Terms.{Term, SetVar, term, setVar}
 use Rattle.calculus.specs.Relations as relations
@@ -160,7 +161,7 @@ no-entries (Exactly A) a b es = absurd (miss (0 ∷ 1 ∷ 2 ∷ 3 ∷ 4 ∷ 5 �
 no-entries (Interval A t u) a b es = absurd (miss (0 ∷ 1 ∷ 2 ∷ 3 ∷ 4 ∷ 5 ∷ 6 ∷ []) 7 tt b)
 
 -- where the table says that it stands, and what it says of its witness
-pub stands-there : (bs : List ℕ) (tab : Table) (i : ℕ) → Opened bs tab → i < tab .constraints → (i < 48) × Stands bs i (getD (tab .offsets) i 0) × (term (getD (tab .witnesses) i 0) ≡ witnessOf bs i)
+pub stands-there : (bs : List ℕ) (tab : Table) (i : ℕ) → Opened bs tab → i < tab .constraints → (i < mostConstraints) × Stands bs i (getD (tab .offsets) i 0) × (term (getD (tab .witnesses) i 0) ≡ witnessOf bs i)
 stands-there bs tab i o l =
     let s = placed bs tab i o l .small in
     (s, record { tab = tab; opened = o; there = l; offset = refl }, witness-read bs tab i o s)
@@ -191,7 +192,7 @@ module _ (bs : List ℕ) (i at : ℕ) (st : Stands bs i at) where
       omega (arith, above 11 (getD bs at 0) l h, k .1, kind-here)
 
   -- two operands are there
-  pub two-operands : (i < 48) × (at + 2 < length bs) × (length bs ≤ 4096)
+  pub two-operands : (i < mostConstraints) × (at + 2 < length bs) × (length bs ≤ mostBytes)
   two-operands = (place .small, omega (arith, kind-sizes this .2, here-length), place .short)
 
   -- a third is there where the kind has one
@@ -209,14 +210,14 @@ module _ (bs : List ℕ) (i at : ℕ) (st : Stands bs i at) where
       let byte : (j : ℕ) → getD (encodeConstraint this ++ place .rest) j 0 ≡ getD bs (at + j) 0 = λ j. ap (λ (xs : List ℕ). getD xs j 0) (sym here) ∙ getD-drop at bs j 0 in
       rw (q, byte 1, byte 2, byte 3) at h
 
-  -- its terms are below 64 and its sets below 8
-  pub in-range : ConstraintIn 64 8 this
-  in-range = let s = opened-sizes bs (st .tab) (st .opened) in constraint-in bs (st .tab) i (st .opened) (st .there) 64 8 (s .2) (s .1)
+  -- its terms and sets are below the limits
+  pub in-range : ConstraintIn mostTerms mostSets this
+  in-range = let s = opened-sizes bs (st .tab) (st .opened) in constraint-in bs (st .tab) i (st .opened) (st .there) mostTerms mostSets (s .2) (s .1)
 
   -- ---- its entries
 
   unpacked : (es : List ℕ) (r : Constraint) → this ≡ decoded (map term es) r → entriesOf (decoded (map term es) r) ≡ map term es → length es ≤ 255 → Unpacked bs i es r
-  unpacked es r e q n = record { is = e; handled = record { in-range = subst (ConstraintIn 64 8) e in-range; entries-are = q; short = n } }
+  unpacked es r e q n = record { is = e; handled = record { in-range = subst (ConstraintIn mostTerms mostSets) e in-range; entries-are = q; short = n } }
 
   module _ (r : Constraint) (is : this ≡ decoded (listed this) r) where
     -- a list's: as many as its count byte says
@@ -237,16 +238,16 @@ module _ (bs : List ℕ) (i at : ℕ) (st : Stands bs i at) where
       interval-is es h n =
           unpacked es r (is ∙ ap (decoded (listed this)) e ∙ ap (decoded (map term es)) (sym e)) (ap (λ (x : Constraint). entriesOf (decoded (map term es) x)) e ∙ ap (map term) h) n
 
-      -- an interval that is not empty ends below 64
-      pub interval-end : t .0 ≤ u .0 → u .0 < 64
+      -- an interval that is not empty ends below mostTerms
+      pub interval-end : t .0 ≤ u .0 → u .0 < mostTerms
       interval-end h =
-          let a : ConstraintIn 64 8 (decoded (listed this) (Interval A t u)) = subst (ConstraintIn 64 8) (is ∙ ap (decoded (listed this)) e) in-range in
-          terms-at (λ x. x .index < 64) (t .0) (suc (u .0) - t .0) (a .1) (u .0) h (omega arith)
+          let a : ConstraintIn mostTerms mostSets (decoded (listed this) (Interval A t u)) = subst (ConstraintIn mostTerms mostSets) (is ∙ ap (decoded (listed this)) e) in-range in
+          terms-at (λ x. x .index < mostTerms) (t .0) (suc (u .0) - t .0) (a .1) (u .0) h (omega arith)
 
-      pub interval-unpacked : t .0 ≤ u .0 → (es numbers : List ℕ) → numbers ≡ upFrom 0 64 → es ≡ take (u .0 + 1 - t .0) (drop (t .0) numbers) → Unpacked bs i es r
+      pub interval-unpacked : t .0 ≤ u .0 → (es numbers : List ℕ) → numbers ≡ upFrom 0 mostTerms → es ≡ take (u .0 + 1 - t .0) (drop (t .0) numbers) → Unpacked bs i es r
       interval-unpacked h es numbers m q =
           let z : u .0 + 1 - t .0 ≡ suc (u .0) - t .0 = omega arith in
-          let p : take (suc (u .0) - t .0) (drop (t .0) (upFrom 0 64)) ≡ upFrom (t .0) (suc (u .0) - t .0) = up-part (suc (u .0) - t .0) (t .0) 64 0 (t .0) (omega arith) (omega (arith, interval-end h)) in
+          let p : take (suc (u .0) - t .0) (drop (t .0) (upFrom 0 mostTerms)) ≡ upFrom (t .0) (suc (u .0) - t .0) = up-part (suc (u .0) - t .0) (t .0) mostTerms 0 (t .0) (omega arith) (omega (arith, interval-end h)) in
           let s : upFrom (t .0) (suc (u .0) - t .0) ≡ es = sym (rw (m, z) at q ∙ p) in
           interval-is es s (omega (arith, ap length s, up-length (t .0) (suc (u .0) - t .0), interval-end h))
 

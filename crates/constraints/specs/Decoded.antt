@@ -3,6 +3,7 @@ use mathlib.Core.Path.{_≡_}
 use mathlib.Core.List.{List, map}
 use Prim.Native.Nat.{ℕ, _≤_}
 use lib.ListN.{length}
+use Rattle.calculus.specs.Limits.{mostSets, mostTerms}
 use Rattle.calculus.specs.Terms.{Term, term, setVar}
 use Rattle.calculus.specs.Relations as relations
 use Rattle.calculus.specs.Meaning as calculus
@@ -37,9 +38,9 @@ decoded es (Negated k A B C w) = calculus.negation (negationOf k) (setVar (A .0)
 decoded es (Exactly A) = calculus.exactly (setVar (A .0)) es
 decoded es (Interval A i j) = calculus.interval (setVar (A .0)) (term (i .0)) (term (j .0))
 
--- a constraint l that the code handles, with its entries: its terms are below 64 and its sets below 8
+-- a constraint l that the code handles, with its entries: its terms and sets are below the limits
 pub record Handled (es : List ℕ) (l : Constraint) : Type 0 where
-  pub in-range : ConstraintIn 64 8 (decoded (map term es) l)
+  pub in-range : ConstraintIn mostTerms mostSets (decoded (map term es) l)
   pub entries-are : entriesOf (decoded (map term es) l) ≡ map term es
   pub short : length es ≤ 255
 

@@ -5,6 +5,7 @@ use terms::SetVar;
 use terms::Term;
 ghost use mathlib.Core.Path.{_≡_};
 ghost use Prim.Native.Nat.{_<_};
+ghost use Rattle.calculus.specs.Limits.{mostTerms};
 ghost use Rattle.calculus.specs.Lists.{upFrom};
 ghost use Rattle.calculus.specs.Terms.{term};
 ghost use Rattle.problem.specs.Table.{Opened, Stands, constraintOf, listed, witnessOf};
@@ -88,7 +89,7 @@ pub fn list_at<'a>(
     at: usize,
     l: Constraint,
 ) -> &'a [u8]
-    requires { ⌜ Stands (now problem) i at × (now numbers ≡ upFrom 0 64) × (constraintOf (now problem) i ≡ decoded (listed (constraintOf (now problem) i)) l) ⌝ }
+    requires { ⌜ Stands (now problem) i at × (now numbers ≡ upFrom 0 mostTerms) × (constraintOf (now problem) i ≡ decoded (listed (constraintOf (now problem) i)) l) ⌝ }
     ensures { λ r. ⌜ Unpacked (now (problem .entry)) i (now r) l ⌝ }
 {
     if let Constraint::Exactly(_) = l {
@@ -114,7 +115,7 @@ pub fn list<'a>(
     i: usize,
     l: Constraint,
 ) -> &'a [u8]
-    requires { ⌜ Opened (now problem) tab × (i < tab .constraints) × (now numbers ≡ upFrom 0 64) × (constraintOf (now problem) i ≡ decoded (listed (constraintOf (now problem) i)) l) ⌝ }
+    requires { ⌜ Opened (now problem) tab × (i < tab .constraints) × (now numbers ≡ upFrom 0 mostTerms) × (constraintOf (now problem) i ≡ decoded (listed (constraintOf (now problem) i)) l) ⌝ }
     ensures { λ r. ⌜ Unpacked (now (problem .entry)) i (now r) l ⌝ }
 {
     let offsets = tab.offsets;

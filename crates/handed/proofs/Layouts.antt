@@ -11,6 +11,7 @@ use lib.Seq.{drop-cons, drop-drop, length-take-le, set-at, getD-set-same, getD-s
 use lib.Dec.{eqb}
 use lib.IntN.{ℤ, pos}
 use borrow.Author.Tests.{le-leb, lt-leb, eq-eqb, ne-eqb}
+use Rattle.calculus.specs.Limits.{mostSets}
 use Rattle.calculus.specs.Reading.{Parsed, parsed, refused, _>>=_, ask, signed, words, ascending}
 use Rattle.calculus.specs.Encoding.{Handed}
 use Rattle.calculus.specs.Check.{count, numbers, memberLists}
@@ -152,12 +153,12 @@ starts-length at [] = refl
 starts-length at (xs ∷ xss) = ap suc (starts-length (at + 1 + 2 * length xs) xss)
 
 -- the next place that is filled
-fill : (xs : List ℕ) (k v : ℕ) → length xs ≡ k → k < 8 → set (filled xs) k v ≡ filled (xs ++ (v ∷ []))
+fill : (xs : List ℕ) (k v : ℕ) → length xs ≡ k → k < mostSets → set (filled xs) k v ≡ filled (xs ++ (v ∷ []))
 fill xs k v e l =
-    let z : 8 - length xs ≡ suc (8 - length (xs ++ (v ∷ []))) = omega (arith, length-append xs (v ∷ [])) in
+    let z : mostSets - length xs ≡ suc (mostSets - length (xs ++ (v ∷ []))) = omega (arith, length-append xs (v ∷ [])) in
     ap (λ (m : ℕ). set (xs ++ replicate m 0) k v) z
-    ∙ set-at xs 0 (replicate (8 - length (xs ++ (v ∷ []))) 0) v k e
-    ∙ sym (append-assoc xs (v ∷ []) (replicate (8 - length (xs ++ (v ∷ []))) 0))
+    ∙ set-at xs 0 (replicate (mostSets - length (xs ++ (v ∷ []))) 0) v k e
+    ∙ sym (append-assoc xs (v ∷ []) (replicate (mostSets - length (xs ++ (v ∷ []))) 0))
 
 -- k of s sets are read, and what is left begins at a place
 pub record SoFar (bs : List ℕ) (n s : ℕ) (r : Layout) (k at : ℕ) : Type 0 where
@@ -168,7 +169,7 @@ pub record SoFar (bs : List ℕ) (n s : ℕ) (r : Layout) (k at : ℕ) : Type 0 
   pub counts-are : r .counts ≡ filled (map length sets)
   pub stand : (A : ℕ) → A < k → Stands bs r sets A
   pub left : readHanded n s bs ≡ readOn (s - k) (drop at bs) (values bs n) sets
-  pub long : (length (r .starts) ≡ 8) × (length (r .counts) ≡ 8)
+  pub long : (length (r .starts) ≡ mostSets) × (length (r .counts) ≡ mostSets)
 
 -- the layout so far
 abbrev pub layout : List ℕ → List ℕ → Layout
@@ -215,7 +216,7 @@ module _ {bs : List ℕ} {n s : ℕ} {starts counts : List ℕ} {k at : ℕ} (so
       here-length : length here ≡ size
       here-length = words-length size (take (2 * size) (drop (at + 1) bs)) (length-take-le (2 * size) (drop (at + 1) bs) (omega (arith, length-drop (at + 1) bs)))
 
-      pub set-read : s ≤ 8 → t ≡ true → SoFar bs n s next (k + 1) (at + 1 + 2 * size)
+      pub set-read : s ≤ mostSets → t ≡ true → SoFar bs n s next (k + 1) (at + 1 + 2 * size)
       set-read b f = record {
         sets = so .sets ++ (here ∷ []);
         many = omega (arith, length-append (so .sets) (here ∷ []), so .many);

@@ -6,6 +6,7 @@ use Prim.Native.Nat.{ℕ, _+_, _*_, _-_, _<_, _≤_}
 use lib.ListN.{length, getD, take, drop, replicate}
 use lib.Dec.{eqb}
 use lib.IntN.{ℤ, pos}
+use Rattle.calculus.specs.Limits.{mostSets}
 use Rattle.calculus.specs.Reading.{Parsed, parsed, refused, _>>=_, ask, signed, words}
 use Rattle.calculus.specs.Encoding.{Handed}
 use Rattle.calculus.specs.Check.{count, numbers, memberLists}
@@ -26,13 +27,13 @@ abbrev pub startsFrom : ℕ → List (List ℤ) → List ℕ
 startsFrom at [] = []
 startsFrom at (xs ∷ xss) = (at + 1) ∷ startsFrom (at + 1 + 2 * length xs) xss
 
--- a list of 8, filled up with 0
+-- a list of mostSets, filled up with 0
 abbrev pub filled : List ℕ → List ℕ
-filled xs = xs ++ replicate (8 - length xs) 0
+filled xs = xs ++ replicate (mostSets - length xs) 0
 
 -- the layout of what is refused: 0 in all
 abbrev pub noLayout : Layout
-noLayout = record { ok = false; starts = replicate 8 0; counts = replicate 8 0 }
+noLayout = record { ok = false; starts = replicate mostSets 0; counts = replicate mostSets 0 }
 
 -- the layout of an assignment to n variables
 unfoldable pub layoutOf : ℕ → Parsed Handed → Layout

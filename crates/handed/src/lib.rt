@@ -1,9 +1,11 @@
 // An assignment that was handed in: question 14, and where its parts stand. Nothing is copied.
 use questions::raised;
+use terms::MOST_SETS;
 use terms::SetVar;
 ghost use mathlib.Core.Path.{_≡_};
 ghost use Prim.Native.Nat.{_+_, _*_, _≤_, _<_};
 ghost use lib.ListN.{length, getD};
+ghost use Rattle.calculus.specs.Limits.{mostSets};
 ghost use Rattle.calculus.specs.Reading.{words, ascending};
 ghost use Rattle.questions.specs.Questions.{raisedAt};
 ghost use Rattle.handed.specs.Laid.{noLayout, Lays, membersAt};
@@ -11,8 +13,8 @@ ghost use Rattle.handed.specs.Laid.{noLayout, Lays, membersAt};
 // Whether the bytes are an assignment; and of each set where its members begin, and how many there are. Both lists are 0 beyond the sets, and all 0 if the bytes are no assignment.
 pub struct Layout {
     pub ok: bool,
-    pub starts: [usize; 8],
-    pub counts: [usize; 8],
+    pub starts: [usize; MOST_SETS],
+    pub counts: [usize; MOST_SETS],
 }
 
 // Whether two-byte values are strictly ascending.
@@ -37,14 +39,14 @@ fn no_layout() -> Layout
 {
     Layout {
         ok: false,
-        starts: [0usize; 8],
-        counts: [0usize; 8],
+        starts: [0usize; MOST_SETS],
+        counts: [0usize; MOST_SETS],
     }
 }
 
 // Question 14: a count byte equal to the number of variables, a value each, then of each set a count byte and its members, ascending; and no more.
 pub fn lay_out(assignment: &[u8], variables: u8, sets: u8) -> Layout
-    requires { ⌜ sets ≤ 8 ⌝ }
+    requires { ⌜ sets ≤ mostSets ⌝ }
     ensures { λ r. ⌜ Lays (now (assignment .entry)) variables sets r ⌝ }
 {
     if assignment.len() == 0 {
@@ -57,8 +59,8 @@ pub fn lay_out(assignment: &[u8], variables: u8, sets: u8) -> Layout
     if assignment.len() < at {
         return no_layout();
     }
-    let mut starts = [0usize; 8];
-    let mut counts = [0usize; 8];
+    let mut starts = [0usize; MOST_SETS];
+    let mut counts = [0usize; MOST_SETS];
     let n = sets as usize;
     for k in 0..n {
         if assignment.len() <= at {
@@ -89,7 +91,7 @@ pub fn lay_out(assignment: &[u8], variables: u8, sets: u8) -> Layout
 
 // The members of a set: the part of the assignment that has them.
 pub fn members<'a>(assignment: &'a [u8], at: Layout, a: SetVar) -> &'a [u8]
-    requires { ⌜ (a .0 < 8) × (getD (at .starts) (a .0) 0 + 2 * getD (at .counts) (a .0) 0 ≤ length (now assignment)) ⌝ }
+    requires { ⌜ (a .0 < mostSets) × (getD (at .starts) (a .0) 0 + 2 * getD (at .counts) (a .0) 0 ≤ length (now assignment)) ⌝ }
     ensures { λ r. ⌜ now r ≡ membersAt (now (assignment .entry)) at (a .0) ⌝ }
 {
     let k = a.0 as usize;

@@ -4,6 +4,7 @@ use mathlib.Core.List.{List, [], _∷_, _++_}
 use Prim.Native.Nat.{ℕ, zero, suc, _+_, _*_, _≤_}
 use lib.ListN.{length, take, drop}
 use lib.Dec.{eqb, leb}
+use Rattle.calculus.specs.Limits.{mostSteps}
 use Rattle.calculus.specs.Forms.{recordOf}
 use Rattle.calculus.specs.Run.{Event, formed, stepped, End, DONE, SPENT, NOROOM, Tally}
 use Rattle.calculus.specs.Calls.{over}
@@ -67,6 +68,6 @@ left t forms trace = state (counted (t .steps) (t .forms) (stopNumber (t .end)))
 -- steps within the budget, records and trace within their buffers
 pub record Fine (n budget : ℕ) (s : State) : Type 0 where
   pub within : s .counts .steps ≤ budget
-  pub few : budget ≤ 10000
+  pub few : budget ≤ mostSteps
   pub traced : 4 * budget ≤ length (s .trace)
   pub written : 3 * n * s .counts .forms ≤ length (s .forms)

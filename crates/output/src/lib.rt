@@ -4,6 +4,7 @@ ghost use mathlib.Core.Path.{_≡_};
 ghost use mathlib.Core.List.{[], _∷_};
 ghost use Prim.Native.Nat.{_+_, _*_, _≤_, _<_};
 ghost use lib.ListN.{length};
+ghost use Rattle.calculus.specs.Limits.{mostTerms};
 ghost use Rattle.calculus.specs.Forms.{recordOf};
 ghost use Rattle.calculus.specs.Invariants.{Falls};
 ghost use Rattle.branch.specs.Held.{held};
@@ -28,7 +29,7 @@ pub fn put(bytes: &[u8], buffer: &mut [u8], at: usize)
 
 // Lists a solved form of the first terms, if its record fits what is left of the form buffer.
 pub fn list_form(b: Branch, terms: u8, c: Counts, forms: &mut [u8]) -> Counts
-    requires { ⌜ (terms ≤ 64) × Falls (b .parents) × (3 * terms * c .forms ≤ length (now forms)) × (terms ≡ 0 → c .forms ≡ 0) ⌝ }
+    requires { ⌜ (terms ≤ mostTerms) × Falls (b .parents) × (3 * terms * c .forms ≤ length (now forms)) × (terms ≡ 0 → c .forms ≡ 0) ⌝ }
     ensures { λ r. ⌜ state r (now (forms .exit)) [] ≡ listed terms (recordOf terms (held b)) (state c (now (forms .entry)) []) ⌝ }
 {
     let size = 3 * (terms as usize);

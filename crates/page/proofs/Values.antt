@@ -8,6 +8,7 @@ use lib.ListN.{length, getD, length-append, List·getD-append}
 use lib.Seq.{getD-append-add}
 use lib.IntN.{pos}
 use borrow.Author.Tests.{lt-ltb, ne-eqb, eq-eqb}
+use Rattle.calculus.specs.Limits.{mostSets, mostTerms}
 use Rattle.calculus.specs.Lists.{bit}
 use Rattle.calculus.specs.Terms.{term}
 use Rattle.calculus.specs.Problem.{Problem, constantCount, termCount, setCount}
@@ -32,8 +33,8 @@ pub record Known (bs : List ℕ) (tab : Table) : Type 0 where
   pub variables : tab .variables ≡ length (problemIn bs .variables)
   pub sets : tab .sets ≡ setCount (problemIn bs)
   pub terms : tab .terms ≡ termCount (problemIn bs)
-  pub few-sets : tab .sets ≤ 8
-  pub few-terms : tab .terms ≤ 64
+  pub few-sets : tab .sets ≤ mostSets
+  pub few-terms : tab .terms ≤ mostTerms
 
 pub known : (bs : List ℕ) (tab : Table) → Opened bs tab → Known bs tab
 unfolding problemOf problemTable

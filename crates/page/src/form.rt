@@ -8,6 +8,7 @@ ghost use mathlib.Core.Path.{_≡_};
 ghost use mathlib.Core.List.{_∷_, [], _++_};
 ghost use Prim.Native.Nat.{_+_, _*_, _≤_, _<_};
 ghost use lib.ListN.{length, getD};
+ghost use Rattle.calculus.specs.Limits.{mostSets, mostTerms};
 ghost use Rattle.calculus.specs.Terms.{term, setVar};
 ghost use Rattle.calculus.specs.Reading.{signed};
 ghost use Rattle.calculus.specs.Forms.{modelNumber, model};
@@ -42,7 +43,7 @@ fn value(problem: &[u8], tab: Table, form: &[u8], t: usize) -> u16
 
 // Whether the class of root t is known to be in a set.
 fn is_inside(form: &[u8], t: usize, set: u8) -> bool
-    requires { ⌜ (3 * t + 2 < length (now form)) × (t < 64) × (set < 8) ⌝ }
+    requires { ⌜ (3 * t + 2 < length (now form)) × (t < mostTerms) × (set < mostSets) ⌝ }
     ensures { λ r. ⌜ r ≡ inside (now (form .entry)) set t ⌝ }
 {
     if form[3 * t] as usize != t {
@@ -62,7 +63,7 @@ fn member(
     start: usize,
     end: usize,
 ) -> usize
-    requires { ⌜ Opened (now problem) tab × Shaped (problemIn (now problem)) (now form) × (t < tab .terms) × (set < 8) × (end + 7 ≤ length (now text)) ⌝ }
+    requires { ⌜ Opened (now problem) tab × Shaped (problemIn (now problem)) (now form) × (t < tab .terms) × (set < mostSets) × (end + 7 ≤ length (now text)) ⌝ }
     ensures { λ r. ⌜ Wrote (now (text .entry)) end (memberText (problemIn (now (problem .entry))) (now (form .entry)) set t start end) r (now (text .exit)) × (r ≤ end + 7) ⌝ }
 {
     if !is_inside(form, t, set) {
@@ -74,7 +75,7 @@ fn member(
 
 // The members of a set.
 fn members(problem: &[u8], tab: Table, form: &[u8], set: u8, text: &mut [u8], at: usize) -> usize
-    requires { ⌜ Opened (now problem) tab × Shaped (problemIn (now problem)) (now form) × (set < 8) × (at + 450 ≤ length (now text)) ⌝ }
+    requires { ⌜ Opened (now problem) tab × Shaped (problemIn (now problem)) (now form) × (set < mostSets) × (at + 450 ≤ length (now text)) ⌝ }
     ensures { λ r. ⌜ Wrote (now (text .entry)) at (braces (model (problemIn (now (problem .entry))) (now (form .entry)) .members (setVar set))) r (now (text .exit)) × (r ≤ at + 450) ⌝ }
 {
     let start = say(b"{", text, at);

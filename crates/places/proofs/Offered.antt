@@ -9,6 +9,7 @@ use native.Mathlib.Omega.{arith}
 use lib.ListN.{length, getD}
 use lib.Dec.{eqb}
 use borrow.Author.Tests.{eqb-true, eq-eqb, ne-eqb}
+use Rattle.calculus.specs.Limits.{mostSets, mostTerms}
 use Rattle.calculus.specs.Lists.{upFrom, keep, first, gather, Each}
 use Rattle.calculus.specs.Terms.{Term, SetVar, term}
 use Rattle.calculus.specs.Relations.{Rule, Literal, Relation, equal, union, disjoint, subset, intersection, Operand, applies, propagation, propagationRows, splitRows, negationRow, operandOf}
@@ -162,14 +163,14 @@ module _ (n : ℕ) (b : Branch) where
       root-positions (interval A x y) j c e = list-roots A (entries x y) j e
 
 -- where rule j of a constraint is found to apply, if it is not rule 19: a root, and the one concerned
-pub position-root : (n : ℕ) (b : Branch) (l : Constraint) (j p : ℕ) → Falls (b .parents) → n ≤ 64 → ConstraintIn 64 8 l → j ≢ 19 → firstAt n b l j ≡ some p → (p < 64) × (rootAt b p ≡ p) × (moveAt b l j p .0 ≡ term p)
+pub position-root : (n : ℕ) (b : Branch) (l : Constraint) (j p : ℕ) → Falls (b .parents) → n ≤ mostTerms → ConstraintIn mostTerms mostSets l → j ≢ 19 → firstAt n b l j ≡ some p → (p < mostTerms) × (rootAt b p ≡ p) × (moveAt b l j p .0 ≡ term p)
 position-root n b l j p fall le c e f =
-    first-some (λ q. (q < 64) × (rootAt b q ≡ q) × (moveAt b l j q .0 ≡ term q)) (λ q. applies (known b) (moveAt b l j q .1)) (positions n b l j) p (root-positions n b fall 64 8 le l j c e) f .0
+    first-some (λ q. (q < mostTerms) × (rootAt b q ≡ q) × (moveAt b l j q .0 ≡ term q)) (λ q. applies (known b) (moveAt b l j q .1)) (positions n b l j) p (root-positions n b fall mostTerms mostSets le l j c e) f .0
 
 -- in general: of rule 19 the number of an entry, of any other a term number, that of the root concerned
-pub position-of : (n : ℕ) (b : Branch) (l : Constraint) (j p : ℕ) → Falls (b .parents) → n ≤ 64 → ConstraintIn 64 8 l → RuleOf l j
+pub position-of : (n : ℕ) (b : Branch) (l : Constraint) (j p : ℕ) → Falls (b .parents) → n ≤ mostTerms → ConstraintIn mostTerms mostSets l → RuleOf l j
     → first (λ (q : ℕ). applies (known b) (moveAt b l j q .1)) (positions n b l j) ≡ some p
-    → (j ≡ 19 → p < length (entriesOf l)) × (¬ (j ≡ 19) → (p < 64) × (moveAt b l j p .0 ≡ term p))
+    → (j ≡ 19 → p < length (entriesOf l)) × (¬ (j ≡ 19) → (p < mostTerms) × (moveAt b l j p .0 ≡ term p))
 position-of n b l j p fall le c r f = (
   λ e. first-some (λ q. q < length (entriesOf l)) (λ q. applies (known b) (moveAt b l j q .1)) (positions n b l j) p (entry-positions n b l j r e) f .0,
   λ e. let w = position-root n b l j p fall le c e f in (w .0, w .2),

@@ -8,6 +8,7 @@ use native.Mathlib.Omega.{arith}
 use native.Mathlib.Decide.{ℕ-discrete}
 use lib.ListN.{length}
 use borrow.Author.Tests.{eq-eqb, ne-eqb}
+use Rattle.calculus.specs.Limits.{mostSets, mostTerms}
 use Rattle.calculus.specs.Lists.{upFrom, picked, Each, Some}
 use Rattle.calculus.specs.Terms.{Term, SetVar, term}
 use Rattle.calculus.specs.Relations.{Rule, Literal, Operand, Relation, equal, union, disjoint, subset, intersection, unequal, negationRow, operandOf}
@@ -133,9 +134,9 @@ module _ (n m : ℕ) where
         go (some y) u ih = rw (u, picked) (asserts-fit n constants m g (i .0) b F y u .0, ih)
 
 -- a child of a sound branch is sound
-pub child-fit : (constants : List Term) (b : Branch) (l : Constraint) (j p c : ℕ) (d : Branch) → WellFormed 64 constants b → ConstraintIn 64 8 l → RuleOf l j → (j ≡ 19 → p < length (entriesOf l)) → (¬ (j ≡ 19) → p < 64) → c < slotsOf l j → childOf constants b l j p c ≡ some d → WellFormed 64 constants d
+pub child-fit : (constants : List Term) (b : Branch) (l : Constraint) (j p c : ℕ) (d : Branch) → WellFormed mostTerms constants b → ConstraintIn mostTerms mostSets l → RuleOf l j → (j ≡ 19 → p < length (entriesOf l)) → (¬ (j ≡ 19) → p < mostTerms) → c < slotsOf l j → childOf constants b l j p c ≡ some d → WellFormed mostTerms constants d
 child-fit constants b l j p c d F i r x y h e =
-    some-each (WellFormed 64 constants) d (children constants b (moveAt b l j p .1)) (picked-fit 64 8 constants b F (moveAt b l j p .1 .alternatives) (alternatives-in 64 8 constants b F l j p i r x y)) (child-among constants b l j p c d r h e)
+    some-each (WellFormed mostTerms constants) d (children constants b (moveAt b l j p .1)) (picked-fit mostTerms mostSets constants b F (moveAt b l j p .1 .alternatives) (alternatives-in mostTerms mostSets constants b F l j p i r x y)) (child-among constants b l j p c d r h e)
 
 -- a propagation rule has one number
 abbrev Single : Constraint → ℕ → Type 0

@@ -8,6 +8,7 @@ use native.Mathlib.Nat.{le-of-suc-le-suc}
 use lib.ListN.{length, getD, take, drop, replicate, length-append, length-drop, length-map, getD-replicate, List·getD-append, List·getD-eq-default}
 use lib.Seq.{drop-at, take-at, drop-drop, drop-append-seam, getD-drop, getD-append-add}
 use lib.IntN.{ℤ, pos}
+use Rattle.calculus.specs.Limits.{mostBytes, mostSets, mostConstraints, mostTerms}
 use Rattle.calculus.specs.Lists.{gather}
 use Rattle.calculus.specs.Terms.{Term, SetVar, term, setVar}
 use Rattle.calculus.specs.Relations.{Negation, equal, union, disjoint, subset, intersection, unequal}
@@ -91,11 +92,11 @@ stands-at bs (x ∷ ls) at (suc i) e l =
     (le-of-suc-le-suc l)
 
 filled-at : (xs : List ℕ) (i : ℕ) → i < length xs → getD (filled xs) i 0 ≡ getD xs i 0
-filled-at xs i l = List·getD-append xs (replicate (48 - length xs) 0) 0 i l
+filled-at xs i l = List·getD-append xs (replicate (mostConstraints - length xs) 0) 0 i l
 
 pub record Placed (bs : List ℕ) (tab : Table) (i : ℕ) : Type 0 where
-  pub small : i < 48
-  pub short : length bs ≤ 4096
+  pub small : i < mostConstraints
+  pub short : length bs ≤ mostBytes
   pub low : getD (tab .offsets) i 0 < length bs
   pub rest : List ℕ
   pub here : drop (getD (tab .offsets) i 0) bs ≡ encodeConstraint (constraintOf bs i) ++ rest
@@ -216,7 +217,7 @@ module _ (bs : List ℕ) (i at : ℕ) (s : Stands bs i at) where
 
 -- ---- the witnesses
 
-filled-any : (xs : List ℕ) (i : ℕ) → i < 48 → getD (filled xs) i 0 ≡ getD xs i 0
+filled-any : (xs : List ℕ) (i : ℕ) → i < mostConstraints → getD (filled xs) i 0 ≡ getD xs i 0
 filled-any xs i l = go (decLt i (length xs))
   where
     go : Dec (i < length xs) → getD (filled xs) i 0 ≡ getD xs i 0
@@ -224,9 +225,9 @@ filled-any xs i l = go (decLt i (length xs))
     go (no h) =
         let f : length xs ≤ i = omega arith in
         let z : i ≡ length xs + (i - length xs) = omega arith in
-        ap (λ (x : ℕ). getD (filled xs) x 0) z ∙ getD-append-add xs (replicate (48 - length xs) 0) (i - length xs) 0 ∙ getD-replicate (48 - length xs) (i - length xs) 0 0 (omega arith) ∙ sym (List·getD-eq-default xs 0 f)
+        ap (λ (x : ℕ). getD (filled xs) x 0) z ∙ getD-append-add xs (replicate (mostConstraints - length xs) 0) (i - length xs) 0 ∙ getD-replicate (mostConstraints - length xs) (i - length xs) 0 0 (omega arith) ∙ sym (List·getD-eq-default xs 0 f)
 
-pub witness-read : (bs : List ℕ) (tab : Table) (i : ℕ) → Opened bs tab → i < 48 → term (getD (tab .witnesses) i 0) ≡ witnessOf bs i
+pub witness-read : (bs : List ℕ) (tab : Table) (i : ℕ) → Opened bs tab → i < mostConstraints → term (getD (tab .witnesses) i 0) ≡ witnessOf bs i
 unfolding problemTable witnessOf witnessesOf
 witness-read bs tab i o l =
     let r = opened bs tab o in
@@ -257,7 +258,7 @@ witness-is bs tab i o k A B C u e =
         absurd (omega arith)
 
 -- the counts of an opened table
-pub opened-sizes : (bs : List ℕ) (tab : Table) → Opened bs tab → (tab .constraints ≤ 48) × (tab .sets ≤ 8) × (tab .terms ≤ 64)
+pub opened-sizes : (bs : List ℕ) (tab : Table) → Opened bs tab → (tab .constraints ≤ mostConstraints) × (tab .sets ≤ mostSets) × (tab .terms ≤ mostTerms)
 unfolding problemTable
 opened-sizes bs tab o =
     let r = opened bs tab o in

@@ -9,6 +9,7 @@ use lib.ListN.{length, getD, take, drop, set, replicate, length-append, length-t
 use lib.Seq.{drop-drop, drop-append-seam, sets, sets-eq}
 use lib.Dec.{ltb}
 use lib.IntN.{ℤ}
+use Rattle.calculus.specs.Limits.{mostConstraints}
 use Rattle.calculus.specs.Lists.{all}
 use Rattle.calculus.specs.Terms.{SetVar, term, setVar}
 use Rattle.calculus.specs.Relations.{union, intersection, unequal}
@@ -228,22 +229,22 @@ drop-zeros zero k = let e : k ≡ k - 0 = omega arith in ap (λ (x : ℕ). repli
 drop-zeros (suc n) zero = let e : 0 ≡ 0 - suc n = omega arith in ap (λ (x : ℕ). replicate x 0) e
 drop-zeros (suc n) (suc k) = let e : k - n ≡ suc k - suc n = omega arith in drop-zeros n k ∙ ap (λ (x : ℕ). replicate x 0) e
 
-stored : (xs : List ℕ) → length xs ≤ 48 → filled xs ≡ sets (replicate 48 0) 0 xs
+stored : (xs : List ℕ) → length xs ≤ mostConstraints → filled xs ≡ sets (replicate mostConstraints 0) 0 xs
 stored xs l =
-    let e : 48 - (0 + length xs) ≡ 48 - length xs = omega arith in
-    sym (sets-eq xs (replicate 48 0) 0 (omega arith) ∙ ap (λ (ys : List ℕ). xs ++ ys) (drop-zeros (0 + length xs) 48 ∙ ap (λ (x : ℕ). replicate x 0) e))
+    let e : mostConstraints - (0 + length xs) ≡ mostConstraints - length xs = omega arith in
+    sym (sets-eq xs (replicate mostConstraints 0) 0 (omega arith) ∙ ap (λ (ys : List ℕ). xs ++ ys) (drop-zeros (0 + length xs) mostConstraints ∙ ap (λ (x : ℕ). replicate x 0) e))
 
 module _ (cs : List ℤ) (N S : ℕ) (bs : List ℕ) where
   abbrev rest : ℕ → ℕ → ℕ → Parsed (List Constraint × ℕ × List ℕ)
   rest at w n = constraints cs N S w n (drop at bs)
 
-  pub fill-start : Rising cs → length cs ≤ N → (at m w : ℕ) → m ≤ 48 → tablesOf (length bs) at w (rest at w m) ≡ fillFrom (length bs) at w 0 (replicate 48 0) (replicate 48 0) (rest at w (m - 0))
+  pub fill-start : Rising cs → length cs ≤ N → (at m w : ℕ) → m ≤ mostConstraints → tablesOf (length bs) at w (rest at w m) ≡ fillFrom (length bs) at w 0 (replicate mostConstraints 0) (replicate mostConstraints 0) (rest at w (m - 0))
   unfolding tablesOf fillFrom
   fill-start up known at m w l =
       let z : m ≡ m - 0 = omega arith in
-      go (rest at w m) refl ∙ ap (λ (x : ℕ). fillFrom (length bs) at w 0 (replicate 48 0) (replicate 48 0) (rest at w x)) z
+      go (rest at w m) refl ∙ ap (λ (x : ℕ). fillFrom (length bs) at w 0 (replicate mostConstraints 0) (replicate mostConstraints 0) (rest at w x)) z
     where
-      go : (p : Parsed (List Constraint × ℕ × List ℕ)) → rest at w m ≡ p → tablesOf (length bs) at w p ≡ fillFrom (length bs) at w 0 (replicate 48 0) (replicate 48 0) p
+      go : (p : Parsed (List Constraint × ℕ × List ℕ)) → rest at w m ≡ p → tablesOf (length bs) at w p ≡ fillFrom (length bs) at w 0 (replicate mostConstraints 0) (replicate mostConstraints 0) p
       go (parsed a) q =
           let h = constraints-read cs N S up known m w .wrote (drop at bs) a q in
           let y : h .0 .0 ≡ a .0 = cc (h .4) in

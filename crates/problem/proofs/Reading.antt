@@ -8,6 +8,7 @@ use lib.ListN.{length, getD, take, drop, length-append, length-take, length-drop
 use lib.Dec.{leb, eqb}
 use lib.IntN.{ℤ}
 use borrow.Author.Tests.{le-leb, lt-leb, leb-true, eq-eqb, ne-eqb}
+use Rattle.calculus.specs.Limits.{mostBytes, mostSets, mostConstraints, mostTerms}
 use Rattle.calculus.specs.Meaning.{Constraint}
 use Rattle.calculus.specs.Problem.{Problem, Rising, uses, Numbered}
 use Rattle.calculus.specs.Reading.{Parsed, parsed, refused, _>>=_, ask, byte, bytes, words, inRange, letters, constraints, readConstraints, readSets, readVariables, readConstants}
@@ -102,8 +103,8 @@ module _ (bs : List ℕ) (s : Section) where
     unfolding _>>=_
     sets-stop cs ns z = sets-stage cs ns (drop at bs) ∙ rw (section-stops 1 5 setsTest bs at s e z)
 
-    pub sets-stand : s .refusal ≡ 0 → Stands 1 bs at s × (s .count ≤ 8)
-    sets-stand z = let g = section-goes 1 5 setsTest bs at s (omega arith) e z in (g .0, leb-true (s .count) 8 (and-r (letters 65 90 (take (1 * s .count) (drop (at + 1) bs))) _ (g .1)))
+    pub sets-stand : s .refusal ≡ 0 → Stands 1 bs at s × (s .count ≤ mostSets)
+    sets-stand z = let g = section-goes 1 5 setsTest bs at s (omega arith) e z in (g .0, leb-true (s .count) mostSets (and-r (letters 65 90 (take (1 * s .count) (drop (at + 1) bs))) _ (g .1)))
 
     pub sets-go : (cs : List ℤ) (ns : List ℕ) (k n : ℕ) → at ≡ 2 + 2 * k + n → s .refusal ≡ 0 → readSets cs ns (drop at bs) ≡ readConstraints cs ns (setsOf bs k n (s .count)) (drop (s .next) bs)
     unfolding _>>=_ setsOf
@@ -113,11 +114,11 @@ module _ (bs : List ℕ) (s : Section) where
         sets-stage cs ns (drop at bs) ∙ rw (section-goes 1 5 setsTest bs at s (omega arith) e z .2) (ap₂ (λ (x y : ℕ). readConstraints cs ns (take x (drop y bs)) (drop (s .next) bs)) m a)
 
 -- the table so far: that of what is left
-pub table-start : (bs : List ℕ) → length bs ≤ 4096 → tableOf bs ≡ tableIs (readConstants bs)
+pub table-start : (bs : List ℕ) → length bs ≤ mostBytes → tableOf bs ≡ tableIs (readConstants bs)
 unfolding tableOf
 table-start bs l = ap tableIs (read-short bs l)
 
-pub table-long : (bs : List ℕ) (r : Table) → 4096 < length bs → r ≡ refusedTable 1 → r ≡ tableOf bs
+pub table-long : (bs : List ℕ) (r : Table) → mostBytes < length bs → r ≡ refusedTable 1 → r ≡ tableOf bs
 unfolding tableOf tableIs
 table-long bs r l e = rw (read-long bs l) e
 
@@ -226,17 +227,17 @@ module _ (bs : List ℕ) (at k n s : ℕ) (place : at ≡ 3 + 2 * k + n + s) (fi
   unfolding readConstraints _>>=_ tableIs
   no-constraint-count r l e = rw (byte-none bs at l) e
 
-  pub many-constraints : (r : Table) → at < length bs → 48 < getD bs at 0 → r ≡ refusedTable 6 → r ≡ tableIs whole
+  pub many-constraints : (r : Table) → at < length bs → mostConstraints < getD bs at 0 → r ≡ refusedTable 6 → r ≡ tableIs whole
   unfolding readConstraints _>>=_ ask tableIs
-  many-constraints r l h e = rw (byte-at bs at l, lt-leb (getD bs at 0) 48 h) e
+  many-constraints r l h e = rw (byte-at bs at l, lt-leb (getD bs at 0) mostConstraints h) e
 
-  module _ (l : at < length bs) (few : getD bs at 0 ≤ 48) (all : Tables) (e : all ≡ tablesOf (length bs) (at + 1) (k + n) (constraints cs (k + n) s (k + n) (getD bs at 0) (drop (at + 1) bs))) where
+  module _ (l : at < length bs) (few : getD bs at 0 ≤ mostConstraints) (all : Tables) (e : all ≡ tablesOf (length bs) (at + 1) (k + n) (constraints cs (k + n) s (k + n) (getD bs at 0) (drop (at + 1) bs))) where
     abbrev made : List Constraint → ℕ → Problem
     made ls w = record { constants = cs; variables = ns; sets = ss; witnesses = w - (k + n); constraints = ls }
 
-    whole-is : whole ≡ (constraints cs (k + n) s (k + n) (getD bs at 0) (drop (at + 1) bs) >>= λ a. ask 10 (eqb (length (a .2)) 0) >>= λ _. ask 11 (leb (a .1) 64) >>= λ _. parsed (made (a .0) (a .1)))
+    whole-is : whole ≡ (constraints cs (k + n) s (k + n) (getD bs at 0) (drop (at + 1) bs) >>= λ a. ask 10 (eqb (length (a .2)) 0) >>= λ _. ask 11 (leb (a .1) mostTerms) >>= λ _. parsed (made (a .0) (a .1)))
     unfolding readConstraints _>>=_ ask
-    whole-is = rw (byte-at bs at l, le-leb (getD bs at 0) 48 few, count-k, count-n, count-s)
+    whole-is = rw (byte-at bs at l, le-leb (getD bs at 0) mostConstraints few, count-k, count-n, count-s)
 
     pub constraint-refused : (r : Table) → (all .refusal ≡ 0 → ⊥) → r ≡ refusedTable (all .refusal) → r ≡ tableIs whole
     unfolding _>>=_ tableIs
@@ -254,17 +255,17 @@ module _ (bs : List ℕ) (at k n s : ℕ) (place : at ≡ 3 + 2 * k + n + s) (fi
           let x : whole ≡ refused 10 = whole-is ∙ rw (told .reads, ne-eqb (length (told .rest)) 0 (λ (x : length (told .rest) ≡ 0). omega (arith, told .next))) in
           q ∙ sym (ap tableIs x)
 
-      pub many-terms : (r : Table) → length bs ≤ all .next → 64 < all .terms → r ≡ refusedTable 11 → r ≡ tableIs whole
+      pub many-terms : (r : Table) → length bs ≤ all .next → mostTerms < all .terms → r ≡ refusedTable 11 → r ≡ tableIs whole
       unfolding _>>=_ ask tableIs
       many-terms r o t q =
-          let x : whole ≡ refused 11 = whole-is ∙ rw (told .reads, eq-eqb (length (told .rest)) 0 (omega (arith, told .next, told .fits)), lt-leb (all .terms) 64 t) in
+          let x : whole ≡ refused 11 = whole-is ∙ rw (told .reads, eq-eqb (length (told .rest)) 0 (omega (arith, told .next, told .fits)), lt-leb (all .terms) mostTerms t) in
           q ∙ sym (ap tableIs x)
 
-      accepted : length bs ≤ all .next → all .terms ≤ 64 → whole ≡ parsed (made (told .them) (all .terms))
+      accepted : length bs ≤ all .next → all .terms ≤ mostTerms → whole ≡ parsed (made (told .them) (all .terms))
       unfolding _>>=_ ask
-      accepted o t = whole-is ∙ rw (told .reads, eq-eqb (length (told .rest)) 0 (omega (arith, told .next, told .fits)), le-leb (all .terms) 64 t)
+      accepted o t = whole-is ∙ rw (told .reads, eq-eqb (length (told .rest)) 0 (omega (arith, told .next, told .fits)), le-leb (all .terms) mostTerms t)
 
-      pub table-made : length bs ≤ all .next → all .terms ≤ 64
+      pub table-made : length bs ≤ all .next → all .terms ≤ mostTerms
           → _≡_ {A = Table} (record { refusal = 0; constants = k; variables = n; sets = s; constraints = getD bs at 0; terms = all .terms; offsets = all .offsets; witnesses = all .witnesses }) (tableIs whole)
       unfolding tableIs problemTable
       table-made o t =
@@ -280,7 +281,7 @@ module _ (bs : List ℕ) (at k n s : ℕ) (place : at ≡ 3 + 2 * k + n + s) (fi
 
 -- ---- `read`, after each section
 
-module _ (bs : List ℕ) (short : length bs ≤ 4096) (s : Section) (es : s ≡ sectionOf (length bs) (constantsSection bs)) where
+module _ (bs : List ℕ) (short : length bs ≤ mostBytes) (s : Section) (es : s ≡ sectionOf (length bs) (constantsSection bs)) where
   pub refused-constants : (r : Table) → (s .refusal ≡ 0 → ⊥) → r ≡ refusedTable (s .refusal) → r ≡ tableOf bs
   refused-constants r z q = table-stop bs r (readConstants bs) (s .refusal) (table-start bs short) (constants-stop bs s es z) q
 

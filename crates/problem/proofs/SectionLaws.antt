@@ -10,6 +10,7 @@ use lib.ListN.{length, getD, take, drop, drop-of-length-le, length-drop}
 use lib.Seq.{drop-cons, drop-drop}
 use lib.Dec.{leb}
 use borrow.Author.Tests.{le-leb, lt-leb}
+use Rattle.calculus.specs.Limits.{mostSets}
 use Rattle.calculus.specs.Reading.{Parsed, parsed, refused, _>>=_, ask, byte, bytes}
 use Rattle.problem.specs.declared.sections.Section.{Section}
 use Rattle.problem.specs.Sections.{counted, section, refusedSection, sectionOf}
@@ -165,6 +166,6 @@ few-bytes (suc (suc (suc m))) n l h = absurd (omega arith)
 pub names-part : (bs : List ℕ) (at : ℕ) (s : Section) → Stands 1 bs at s → take (s .next - (at + 1)) (drop (at + 1) bs) ≡ body 1 bs at s
 names-part bs at s h = let e : s .next - (at + 1) ≡ 1 * s .count = omega (arith, h .next) in ap (λ (x : ℕ). take x (drop (at + 1) bs)) e
 
-pub too-many : (b : Bool) (n : ℕ) → 8 < n → (b && leb n 8) ≡ false
-too-many true n l = lt-leb n 8 l
+pub too-many : (b : Bool) (n : ℕ) → mostSets < n → (b && leb n mostSets) ≡ false
+too-many true n l = lt-leb n mostSets l
 too-many false n l = refl

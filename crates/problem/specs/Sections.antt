@@ -4,6 +4,7 @@ use mathlib.Core.List.{List, [], _∷_, _++_, map}
 use Prim.Native.Nat.{ℕ, _+_, _*_, _-_, _%_}
 use lib.ListN.{length, take, drop, replicate}
 use lib.Dec.{leb}
+use Rattle.calculus.specs.Limits.{mostSets, mostConstraints}
 use Rattle.calculus.specs.Meaning.{Constraint}
 use Rattle.calculus.specs.Problem.{uses}
 use Rattle.calculus.specs.Encoding.{encodeConstraint}
@@ -35,7 +36,7 @@ abbrev pub variablesTest : ℕ → List ℕ → Bool
 variablesTest n ns = letters 97 122 ns
 
 abbrev pub setsTest : ℕ → List ℕ → Bool
-setsTest s ss = letters 65 90 ss && leb s 8
+setsTest s ss = letters 65 90 ss && leb s mostSets
 
 abbrev pub constantsSection : List ℕ → Parsed (ℕ × List ℕ × List ℕ)
 constantsSection = section 2 3 constantsTest
@@ -73,12 +74,12 @@ unfoldable pub witnessesFrom : ℕ → List Constraint → List ℕ
 witnessesFrom w [] = []
 witnessesFrom w (l ∷ ls) = w ∷ witnessesFrom (w + uses l) ls
 
--- a table of 48, filled up with 0
+-- a table of mostConstraints, filled up with 0
 abbrev pub filled : List ℕ → List ℕ
-filled xs = xs ++ replicate (48 - length xs) 0
+filled xs = xs ++ replicate (mostConstraints - length xs) 0
 
 abbrev pub refusedTables : ℕ → Tables
-refusedTables n = record { refusal = n; next = 0; terms = 0; offsets = replicate 48 0; witnesses = replicate 48 0 }
+refusedTables n = record { refusal = n; next = 0; terms = 0; offsets = replicate mostConstraints 0; witnesses = replicate mostConstraints 0 }
 
 -- the number that refuses one; or where they end, how many terms there are, and both tables (question 11 comes later, so a witness is told by its last byte)
 unfoldable pub tablesOf : ℕ → ℕ → ℕ → Parsed (List Constraint × ℕ × List ℕ) → Tables

@@ -4,6 +4,7 @@ use mathlib.Core.List.{List, []}
 use Prim.Native.Nat.{ℕ, _+_, _*_, _<_}
 use lib.ListN.{length, getD, replicate}
 use lib.IntN.{ℤ, pos}
+use Rattle.calculus.specs.Limits.{mostConstraints}
 use Rattle.calculus.specs.Terms.{Term, SetVar, term}
 use Rattle.calculus.specs.Relations.{equal, union, disjoint, subset, intersection, unequal}
 use Rattle.calculus.specs.Meaning.{Constraint, member, nonmember, same, different, relation, negation, exactly, interval}
@@ -19,9 +20,9 @@ headerLength prob = 4 + 2 * constantCount prob + length (prob .variables) + setC
 
 -- What a table holds. Of a problem that is refused: the number of the question, and 0 in all else. Of one that is accepted: 0, how many
 -- constants, variables, sets, constraints and terms (witnesses too) there are, and for each constraint where its kind byte stands and the
--- term number of its witness (where it has none, that of the next one); both lists are filled up with 0 to 48.
+-- term number of its witness (where it has none, that of the next one); both lists are filled up with 0 to mostConstraints.
 abbrev pub refusedTable : ℕ → Table
-refusedTable n = record { refusal = n; constants = 0; variables = 0; sets = 0; constraints = 0; terms = 0; offsets = replicate 48 0; witnesses = replicate 48 0 }
+refusedTable n = record { refusal = n; constants = 0; variables = 0; sets = 0; constraints = 0; terms = 0; offsets = replicate mostConstraints 0; witnesses = replicate mostConstraints 0 }
 
 unfoldable pub problemTable : Problem → Table
 problemTable prob = record {
@@ -56,8 +57,8 @@ tableBy t offsets witnesses = record { refusal = t .refusal; constants = t .cons
 -- they are the parts of the table of these bytes, which are a problem
 pub record Tabled (bs : List ℕ) (t : Totals) (offsets witnesses : List ℕ) : Type 0 where
   pub opened : Opened bs (tableBy t offsets witnesses)
-  pub sized : length offsets ≡ 48
-  pub sized-witnesses : length witnesses ≡ 48
+  pub sized : length offsets ≡ mostConstraints
+  pub sized-witnesses : length witnesses ≡ mostConstraints
 
 -- constraint i of a problem is there, and its kind byte stands at an offset
 pub record Stands (bs : List ℕ) (i at : ℕ) : Type 0 where

@@ -6,10 +6,14 @@ use sections::constants_at;
 use sections::constraints_at;
 use sections::sets_at;
 use sections::variables_at;
+use terms::MOST_BYTES;
+use terms::MOST_CONSTRAINTS;
+use terms::MOST_TERMS;
 ghost use mathlib.Core.Path.{_≡_};
 ghost use mathlib.Core.List.{map};
 ghost use Prim.Native.Nat.{_+_, _*_, _≤_, _<_};
 ghost use lib.ListN.{length, drop};
+ghost use Rattle.calculus.specs.Limits.{mostBytes, mostSets};
 ghost use Rattle.calculus.specs.Terms.{term};
 ghost use Rattle.calculus.specs.Reading.{readConstraints};
 ghost use Rattle.questions.specs.Questions.{ConstantsRise, constantsOf};
@@ -24,8 +28,8 @@ pub struct Table {
     pub sets: u8,
     pub constraints: u8,
     pub terms: u8,
-    pub offsets: [u16; 48],
-    pub witnesses: [u8; 48],
+    pub offsets: [u16; MOST_CONSTRAINTS],
+    pub witnesses: [u8; MOST_CONSTRAINTS],
 }
 
 // A table without its two lists.
@@ -49,21 +53,21 @@ fn refused(n: u8) -> Table
         sets: 0,
         constraints: 0,
         terms: 0,
-        offsets: [0u16; 48],
-        witnesses: [0u8; 48],
+        offsets: [0u16; MOST_CONSTRAINTS],
+        witnesses: [0u8; MOST_CONSTRAINTS],
     }
 }
 
 // Questions 6 to 11, of what stands after k constants, n variables and s sets.
 fn table_at(problem: &[u8], at: usize, k: usize, n: usize, s: usize) -> Table
-    requires { ⌜ (at ≡ 3 + 2 * k + n + s) × (at ≤ length (now problem)) × (length (now problem) ≤ 4096) × (k < 256) × (n < 256) × (s ≤ 8) × ConstantsRise (now problem) k ⌝ }
+    requires { ⌜ (at ≡ 3 + 2 * k + n + s) × (at ≤ length (now problem)) × (length (now problem) ≤ mostBytes) × (k < 256) × (n < 256) × (s ≤ mostSets) × ConstantsRise (now problem) k ⌝ }
     ensures { λ r. ⌜ r ≡ tableIs (readConstraints (constantsOf (now (problem .entry)) k) (variablesOf (now (problem .entry)) k n) (setsOf (now (problem .entry)) k n s) (drop at (now (problem .entry)))) ⌝ }
 {
     if problem.len() <= at {
         return refused(2);
     }
-    let m = problem[at];
-    if 48 < m {
+    let m = problem[at] as usize;
+    if MOST_CONSTRAINTS < m {
         return refused(6);
     }
     let sizes = Sizes {
@@ -71,14 +75,14 @@ fn table_at(problem: &[u8], at: usize, k: usize, n: usize, s: usize) -> Table
         nameable: k + n,
         sets: s,
     };
-    let tables = constraints_at(problem, at + 1, m as usize, sizes);
+    let tables = constraints_at(problem, at + 1, m, sizes);
     if tables.refusal != 0 {
         return refused(tables.refusal);
     }
     if tables.next < problem.len() {
         return refused(10);
     }
-    if 64 < tables.terms {
+    if MOST_TERMS < tables.terms {
         return refused(11);
     }
     let offsets = tables.offsets;
@@ -88,7 +92,7 @@ fn table_at(problem: &[u8], at: usize, k: usize, n: usize, s: usize) -> Table
         constants: k as u8,
         variables: n as u8,
         sets: s as u8,
-        constraints: m,
+        constraints: m as u8,
         terms: tables.terms as u8,
         offsets: offsets,
         witnesses: witnesses,
@@ -99,7 +103,7 @@ fn table_at(problem: &[u8], at: usize, k: usize, n: usize, s: usize) -> Table
 pub fn read(problem: &[u8]) -> Table
     ensures { λ r. ⌜ r ≡ tableOf (now (problem .entry)) ⌝ }
 {
-    if 4096 < problem.len() {
+    if MOST_BYTES < problem.len() {
         return refused(1);
     }
     let constants = constants_at(problem);

@@ -3,9 +3,12 @@ use questions::Sizes;
 use questions::constants_ok;
 use questions::constraint_at;
 use questions::letters_ok;
+use terms::MOST_CONSTRAINTS;
+use terms::MOST_SETS;
 ghost use mathlib.Core.Path.{_≡_};
 ghost use Prim.Native.Nat.{_+_, _*_, _≤_, _<_};
 ghost use lib.ListN.{length, drop};
+ghost use Rattle.calculus.specs.Limits.{mostBytes, mostSets, mostConstraints};
 ghost use Rattle.calculus.specs.Reading.{constraints};
 ghost use Rattle.questions.specs.Questions.{ConstantsRise, constantsOf};
 ghost use Rattle.problem.specs.Sections.{counted, constantsSection, variablesSection, setsSection, sectionOf, refusedSection, refusedTables, tablesOf};
@@ -30,7 +33,7 @@ fn stopped(n: u8) -> Section
 
 // Question 2 of a section: its count, and size bytes for each, are there.
 fn section_at(problem: &[u8], at: usize, size: usize) -> Section
-    requires { ⌜ (at ≤ length (now problem)) × (length (now problem) ≤ 4096) × (size ≤ 2) ⌝ }
+    requires { ⌜ (at ≤ length (now problem)) × (length (now problem) ≤ mostBytes) × (size ≤ 2) ⌝ }
     ensures { λ r. ⌜ r ≡ sectionOf (length (now (problem .entry))) (counted size (drop at (now (problem .entry)))) ⌝ }
 {
     if problem.len() <= at {
@@ -51,7 +54,7 @@ fn section_at(problem: &[u8], at: usize, size: usize) -> Section
 
 // Questions 2 and 3, of the constants.
 pub fn constants_at(problem: &[u8]) -> Section
-    requires { ⌜ length (now problem) ≤ 4096 ⌝ }
+    requires { ⌜ length (now problem) ≤ mostBytes ⌝ }
     ensures { λ r. ⌜ r ≡ sectionOf (length (now (problem .entry))) (constantsSection (now (problem .entry))) ⌝ }
 {
     let part = section_at(problem, 0, 2);
@@ -66,7 +69,7 @@ pub fn constants_at(problem: &[u8]) -> Section
 
 // Questions 2 and 4, of the variables.
 pub fn variables_at(problem: &[u8], at: usize) -> Section
-    requires { ⌜ (at ≤ length (now problem)) × (length (now problem) ≤ 4096) ⌝ }
+    requires { ⌜ (at ≤ length (now problem)) × (length (now problem) ≤ mostBytes) ⌝ }
     ensures { λ r. ⌜ r ≡ sectionOf (length (now (problem .entry))) (variablesSection (drop at (now (problem .entry)))) ⌝ }
 {
     let part = section_at(problem, at, 1);
@@ -83,14 +86,14 @@ pub fn variables_at(problem: &[u8], at: usize) -> Section
 
 // Questions 2 and 5, of the set variables.
 pub fn sets_at(problem: &[u8], at: usize) -> Section
-    requires { ⌜ (at ≤ length (now problem)) × (length (now problem) ≤ 4096) ⌝ }
+    requires { ⌜ (at ≤ length (now problem)) × (length (now problem) ≤ mostBytes) ⌝ }
     ensures { λ r. ⌜ r ≡ sectionOf (length (now (problem .entry))) (setsSection (drop at (now (problem .entry)))) ⌝ }
 {
     let part = section_at(problem, at, 1);
     if part.refusal != 0 {
         return part;
     }
-    if 8 < part.count {
+    if MOST_SETS < part.count {
         return stopped(5);
     }
     let a = at + 1;
@@ -107,8 +110,8 @@ pub struct Tables {
     pub refusal: u8,
     pub next: usize,
     pub terms: usize,
-    pub offsets: [u16; 48],
-    pub witnesses: [u8; 48],
+    pub offsets: [u16; MOST_CONSTRAINTS],
+    pub witnesses: [u8; MOST_CONSTRAINTS],
 }
 
 // Refused by question n.
@@ -119,18 +122,18 @@ fn no_tables(n: u8) -> Tables
         refusal: n,
         next: 0,
         terms: 0,
-        offsets: [0u16; 48],
-        witnesses: [0u8; 48],
+        offsets: [0u16; MOST_CONSTRAINTS],
+        witnesses: [0u8; MOST_CONSTRAINTS],
     }
 }
 
 // The constraints, one by one, from a place on.
 pub fn constraints_at(problem: &[u8], at: usize, m: usize, sizes: Sizes) -> Tables
-    requires { ⌜ (at ≤ length (now problem)) × (length (now problem) ≤ 4096) × (m ≤ 48) × (1 + 2 * sizes .constants ≤ length (now problem)) × (sizes .constants < 256) × (sizes .constants ≤ sizes .nameable) × (sizes .nameable < 512) × (sizes .sets ≤ 8) × ConstantsRise (now problem) (sizes .constants) ⌝ }
+    requires { ⌜ (at ≤ length (now problem)) × (length (now problem) ≤ mostBytes) × (m ≤ mostConstraints) × (1 + 2 * sizes .constants ≤ length (now problem)) × (sizes .constants < 256) × (sizes .constants ≤ sizes .nameable) × (sizes .nameable < 512) × (sizes .sets ≤ mostSets) × ConstantsRise (now problem) (sizes .constants) ⌝ }
     ensures { λ r. ⌜ r ≡ tablesOf (length (now (problem .entry))) at (sizes .nameable) (constraints (constantsOf (now (problem .entry)) (sizes .constants)) (sizes .nameable) (sizes .sets) (sizes .nameable) m (drop at (now (problem .entry)))) ⌝ }
 {
-    let mut offsets = [0u16; 48];
-    let mut witnesses = [0u8; 48];
+    let mut offsets = [0u16; MOST_CONSTRAINTS];
+    let mut witnesses = [0u8; MOST_CONSTRAINTS];
     let mut next = at;
     let mut w = sizes.nameable;
     for i in 0..m {

@@ -4,6 +4,7 @@ ghost use mathlib.Core.Bool.{_&&_};
 ghost use Prim.Native.Nat.{_+_, _*_, _≤_, _<_};
 ghost use lib.ListN.{length, drop};
 ghost use lib.Dec.{ltb};
+ghost use Rattle.calculus.specs.Limits.{mostBytes, mostSets};
 ghost use Rattle.calculus.specs.Lists.{all};
 ghost use Rattle.calculus.specs.Reading.{ascending, inRange, letters, gapless, constraint};
 ghost use Rattle.questions.specs.Questions.{raisedAt, constantsOf, parsedOf, ConstantsRise, refusedBy, acceptedTo, twoAt, threeAt, listAt, intervalAt};
@@ -201,7 +202,7 @@ fn interval_at(problem: &[u8], at: usize, sizes: Sizes) -> Parsed
 
 // The questions of one constraint (2, 7, 2, 8, 9), in their order.
 pub fn constraint_at(problem: &[u8], at: usize, sizes: Sizes) -> Parsed
-    requires { ⌜ (at ≤ length (now problem)) × (length (now problem) ≤ 4096) × (1 + 2 * sizes .constants ≤ length (now problem)) × (sizes .constants < 256) × (sizes .nameable < 512) × (sizes .sets ≤ 8) × ConstantsRise (now problem) (sizes .constants) ⌝ }
+    requires { ⌜ (at ≤ length (now problem)) × (length (now problem) ≤ mostBytes) × (1 + 2 * sizes .constants ≤ length (now problem)) × (sizes .constants < 256) × (sizes .nameable < 512) × (sizes .sets ≤ mostSets) × ConstantsRise (now problem) (sizes .constants) ⌝ }
     ensures { λ r. ⌜ r ≡ parsedOf (length (now (problem .entry))) (constraint (constantsOf (now (problem .entry)) (sizes .constants)) (sizes .nameable) (sizes .sets) 0 (drop at (now (problem .entry)))) ⌝ }
 {
     if problem.len() <= at {

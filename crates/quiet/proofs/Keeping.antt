@@ -9,6 +9,7 @@ use native.Mathlib.Omega.{arith}
 use lib.ListN.{length, getD, length-map}
 use lib.Dec.{eqb, ltb}
 use borrow.Author.Tests.{eqb-true, eq-eqb}
+use Rattle.calculus.specs.Limits.{mostSets}
 use Rattle.calculus.specs.Lists.{upFrom, any, first, bit, Each}
 use Rattle.calculus.specs.Terms.{Term, SetVar, term}
 use Rattle.calculus.specs.Relations.{Rule, Literal, Relation, applies, propagation, negationRow, operandOf, unequal}
@@ -20,6 +21,7 @@ use Rattle.calculus.proofs.Bools.{or-l, or-r, first-none, Each-imp, Each-map}
 use Rattle.calculus.proofs.SearchLaws.{first-skip, first-next}
 use Rattle.calculus.proofs.Sequences.{up-each, up-at, keep-each, keep-at}
 use Rattle.places.specs.Places.{RuleOf, rowOf, roots, firstAt}
+use Rattle.branch.specs.Rows.{literalCount}
 use Rattle.rules.specs.Rows.{numberOf}
 use Rattle.rules.proofs.RowBits.{known-in, known-out, number-low}
 use Rattle.quiet.specs.Quiet.{Idle, needs, pairs}
@@ -28,15 +30,15 @@ use Rattle.quiet.proofs.Growing.{Grows, Old, moved-none, free-kept, roo
 
 -- no rule of the constraint needs a literal of the word; and nothing is merged, or no rule needs two facts
 pub record Spared (n : ℕ) (l : Constraint) (lo hi word : ℕ) : Type 0 where
-  pub in-range : ConstraintIn n 8 l
-  pub unneeded : (j k : ℕ) → k < 16 → RuleOf l j → needs l j k ≡ true → bit word k ≡ false
+  pub in-range : ConstraintIn n mostSets l
+  pub unneeded : (j k : ℕ) → k < literalCount → RuleOf l j → needs l j k ≡ true → bit word k ≡ false
   pub unpaired : (j : ℕ) → RuleOf l j → (lo ≡ hi) ⊎ ((hi < n) × (pairs l j ≡ false))
 
 pub none-found : {X : Type 0} (p : X → Bool) (xs : List X) → Each (λ x. p x ≡ false) xs → first p xs ≡ none
 none-found p xs e = ap (first p) (sym (append-nil xs)) ∙ first-skip p xs [] e
 
 -- literals that are not needed are old
-unneeded-old : (word : ℕ) (f : Literal → ℕ) → ((x : Literal) → f x < 16) → (xs : List Literal) → ((k : ℕ) → k < 16 → any (λ (x : Literal). eqb (f x) k) xs ≡ true → bit word k ≡ false) → Each (λ x. bit word (f x) ≡ false) xs
+unneeded-old : (word : ℕ) (f : Literal → ℕ) → ((x : Literal) → f x < literalCount) → (xs : List Literal) → ((k : ℕ) → k < literalCount → any (λ (x : Literal). eqb (f x) k) xs ≡ true → bit word k ≡ false) → Each (λ x. bit word (f x) ≡ false) xs
 unneeded-old word f low [] u = tt
 unneeded-old word f low (x ∷ xs) u = (u (f x) (low x) (or-l (any (λ (y : Literal). eqb (f y) (f x)) xs) (eq-eqb (f x) (f x) refl)), unneeded-old word f low xs (λ k l e. u k l (or-r (eqb (f x) k) e)))
 
@@ -93,7 +95,7 @@ module _ {b c : Branch} {lo hi word : ℕ} (g : Grows b c lo hi word) where
 
     kept : (l : Constraint) (j : ℕ) → Spared n l lo hi word → RuleOf l j → Kept l j
     kept (member t A) j s o = term-kept (propagation 1 [] (In t A)) t (propagation 1 [] (literal (A .index))) refl (λ x. once (known-in x (t .index) (rootAt x (t .index)) refl A (s .in-range .1)))
-    kept (nonmember t A) j s o = term-kept (propagation 2 [] (Out t A)) t (propagation 2 [] (literal (8 + A .index))) refl (λ x. once (known-out x (t .index) (rootAt x (t .index)) refl A (s .in-range .1)))
+    kept (nonmember t A) j s o = term-kept (propagation 2 [] (Out t A)) t (propagation 2 [] (literal (mostSets + A .index))) refl (λ x. once (known-out x (t .index) (rootAt x (t .index)) refl A (s .in-range .1)))
     kept (same t u) j s o = term-kept (propagation 3 [] (Same t u)) t (propagation 3 [] (holds u)) refl (λ x. refl)
     kept (different t u) j s o = different-kept t u j (s .unpaired j o)
     kept (relation k A B C) j s o = relation-kept k A B C j s o

@@ -4,6 +4,7 @@ use mathlib.Core.Bool.{Bool, true, false, _&&_, _||_, not}
 use mathlib.Core.List.{List, [], _∷_, map}
 use Prim.Native.Nat.{ℕ, _<_}
 use lib.Dec.{eqb}
+use Rattle.calculus.specs.Limits.{mostSets}
 use Rattle.calculus.specs.Lists.{all, any}
 use Rattle.calculus.specs.Terms.{Term, SetVar, term}
 use Rattle.calculus.specs.Relations.{Rule, Literal, applies, mapRule, operandOf}
@@ -39,10 +40,10 @@ once e = ap (λ (z : Bool). not ((z && true) || false)) e
 
 -- at a term t whose root is h
 module _ (b : Branch) (t h : ℕ) (own : rootAt b t ≡ h) where
-  pub tabled-said : (A B C : SetVar) → (A .index < 8) × (B .index < 8) × (C .index < 8) → (r : Rule Literal) → applies (known b) (at (term t) (operandOf A B C) r) ≡ applies (says b h) (tabled A B C r)
+  pub tabled-said : (A B C : SetVar) → (A .index < mostSets) × (B .index < mostSets) × (C .index < mostSets) → (r : Rule Literal) → applies (known b) (at (term t) (operandOf A B C) r) ≡ applies (says b h) (tabled A B C r)
   tabled-said A B C low r = applies-at b t h own A B C low r ∙ sym (applies-map (literalOf A B C) (says b h) r)
 
-  pub chosen-said : (A : SetVar) → A .index < 8 → (es : List Term) → applies (known b) (choose [] b A es (term t)) ≡ applies (says b h) (chosen A es)
+  pub chosen-said : (A : SetVar) → A .index < mostSets → (es : List Term) → applies (known b) (choose [] b A es (term t)) ≡ applies (says b h) (chosen A es)
   chosen-said A low es = ap₂ (λ (x y : Bool). (x && true) && not y) (known-in b t h own A low)
       (any-map (all (known b)) (λ (e : Term). Same (term t) e ∷ []) es
       ∙ ap (λ (r : ℕ). any (λ (e : Term). eqb r (rootAt b (e .index)) && true) es) own

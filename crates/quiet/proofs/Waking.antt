@@ -9,6 +9,7 @@ use lib.ListN.{length, getD}
 use lib.Dec.{eqb}
 use lib.Bits.{bitOr}
 use borrow.Author.Tests.{eqb-true}
+use Rattle.calculus.specs.Limits.{mostSets, mostTerms}
 use Rattle.calculus.specs.Lists.{bit}
 use Rattle.calculus.specs.Terms.{Term}
 use Rattle.calculus.specs.Meaning.{Constraint}
@@ -19,18 +20,18 @@ use Rattle.calculus.proofs.Bools.{or-none-l, or-none-r, clash}
 use Rattle.calculus.proofs.Masks.{bit-or, bit-zero}
 use Rattle.problem.specs.Table.{noConstraint}
 use Rattle.branch.specs.declared.Branch.{Branch}
-use Rattle.branch.specs.Rows.{known, literals}
+use Rattle.branch.specs.Rows.{known, literals, literalCount}
 use Rattle.branch.specs.Held.{held, noting, merging, Sound}
 use Rattle.branch.proofs.Rowing.{noted-known, merged-root, merged-known}
-use Rattle.quiet.specs.Quiet.{Quiet, pairs, WordsOf}
+use Rattle.quiet.specs.Quiet.{Quiet, pairs, WordsOf, pairMark, markWord}
 use Rattle.quiet.proofs.Growing.{Grows, moved-none}
 use Rattle.quiet.proofs.Keeping.{Spared, idle-kept}
 
 -- the words of constraints that are in range
 pub record Watched (n : ℕ) (ls : List Constraint) (words : List ℕ) : Type 0 where
   pub words-are : WordsOf ls words
-  pub in-range : (i : ℕ) → i < length ls → ConstraintIn n 8 (getD ls i noConstraint)
-  pub few : n ≤ 64
+  pub in-range : (i : ℕ) → i < length ls → ConstraintIn n mostSets (getD ls i noConstraint)
+  pub few : n ≤ mostTerms
 
 -- a literal that was known there adds nothing
 absorbed : (x y z w : Bool) → (y ≡ true → w ≡ x) → (x || (y && z)) ≡ (x || (y && (z || w)))
@@ -44,7 +45,7 @@ unless true f e = clash (f refl) e
 unless false f e = refl
 
 module _ {cs : List Term} {b : Branch} (s : Sound cs b) where
-  pub noted-grows : {h : ℕ} (ins outs : ℕ) → h < 64 → rootAt (held b) h ≡ h → Grows (held b) (held (noting b h ins outs .branch)) h h (literals ins outs)
+  pub noted-grows : {h : ℕ} (ins outs : ℕ) → h < mostTerms → rootAt (held b) h ≡ h → Grows (held b) (held (noting b h ins outs .branch)) h h (literals ins outs)
   unfolding rootAt noting
   noted-grows {h} ins outs l e = record {
     roots = λ t. sym (moved-none h (rootAt (held b) t));
@@ -53,7 +54,7 @@ module _ {cs : List Term} {b : Branch} (s : Sound cs b) where
     high-root = e;
   }
 
-  pub merged-grows : {lo hi : ℕ} → lo < hi → hi < 64 → rootAt (held b) lo ≡ lo → rootAt (held b) hi ≡ hi → Grows (held b) (held (merging b lo hi .branch)) lo hi 0
+  pub merged-grows : {lo hi : ℕ} → lo < hi → hi < mostTerms → rootAt (held b) lo ≡ lo → rootAt (held b) hi ≡ hi → Grows (held b) (held (merging b lo hi .branch)) lo hi 0
   merged-grows {lo} {hi} l h el eh = record {
     roots = merged-root cs b (s .good) (s .rowed) lo hi l h el eh;
     facts = λ k j. merged-known cs b (s .good) (s .rowed) lo hi l h el eh k j ∙ ap (λ (x : Bool). known (held b) k j || (eqb j lo && (x || known (held b) k hi))) (sym (bit-zero k));
@@ -69,7 +70,7 @@ module _ {n : ℕ} {ls : List Constraint} {words : List ℕ} (d : Watched n ls w
       idle-kept g (f i l (or-none-r (bit mask i) (bit woken i) z)) split (q i l (or-none-l (bit mask i) (bit woken i) z))
 
   module _ {cs : List Term} {b : Branch} (s : Sound cs b) where
-    pub quiet-noted : {h : ℕ} (ins outs : ℕ) → h < 64 → rootAt (held b) h ≡ h → ((k i : ℕ) → k < 16 → bit (literals ins outs) k ≡ true → bit (getD words (48 + k) 0) i ≡ true → bit woken i ≡ true)
+    pub quiet-noted : {h : ℕ} (ins outs : ℕ) → h < mostTerms → rootAt (held b) h ≡ h → ((k i : ℕ) → k < literalCount → bit (literals ins outs) k ≡ true → bit (getD words (markWord k) 0) i ≡ true → bit woken i ≡ true)
         → Quiet split n ls (held b) mask → Quiet split n ls (held (noting b h ins outs .branch)) (bitOr mask woken)
     quiet-noted ins outs l e f = quiet-kept (noted-grows s ins outs l e) (λ i li q. record {
       in-range = d .in-range i li;
@@ -77,7 +78,7 @@ module _ {n : ℕ} {ls : List Constraint} {words : List ℕ} (d : Watched n ls w
       unpaired = λ j o. inl refl;
     })
 
-    pub quiet-merged : {lo hi : ℕ} → lo < hi → hi < n → rootAt (held b) lo ≡ lo → rootAt (held b) hi ≡ hi → ((i : ℕ) → bit (getD words 64 0) i ≡ true → bit woken i ≡ true)
+    pub quiet-merged : {lo hi : ℕ} → lo < hi → hi < n → rootAt (held b) lo ≡ lo → rootAt (held b) hi ≡ hi → ((i : ℕ) → bit (getD words (markWord pairMark) 0) i ≡ true → bit woken i ≡ true)
         → Quiet split n ls (held b) mask → Quiet split n ls (held (merging b lo hi .branch)) (bitOr mask woken)
     quiet-merged l h el eh f = quiet-kept (merged-grows s l (omega (arith, d .few)) el eh) (λ i li q. record {
       in-range = d .in-range i li;

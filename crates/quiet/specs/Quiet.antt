@@ -3,9 +3,10 @@ use mathlib.Core.Path.{_≡_}
 use mathlib.Core.Bool.{Bool, true, false, _&&_}
 use mathlib.Core.Option.{none}
 use mathlib.Core.List.{List}
-use Prim.Native.Nat.{ℕ, _+_, _^_, _<_}
+use Prim.Native.Nat.{ℕ, _+_, _^_, _≤_, _<_}
 use lib.ListN.{length, getD}
 use lib.Dec.{eqb, ltb}
+use Rattle.calculus.specs.Limits.{mostConstraints}
 use Rattle.calculus.specs.Lists.{any, bit}
 use Rattle.calculus.specs.Terms.{Term}
 use Rattle.calculus.specs.Relations.{Literal, operandOf}
@@ -13,6 +14,7 @@ use Rattle.calculus.specs.Meaning.{Constraint, member, nonmember, same, differe
 use Rattle.calculus.specs.Branch.{Branch}
 use Rattle.problem.specs.Table.{noConstraint}
 use Rattle.places.specs.Places.{spanOf, splitSpan, InSpan, RuleOf, rowOf, entriesOf, firstAt}
+use Rattle.branch.specs.Rows.{literalCount}
 use Rattle.rules.specs.Rows.{numberOf}
 
 -- no propagation rule of a constraint applies, or no split
@@ -45,12 +47,32 @@ pairs (negation r A B C w) j = false
 pairs (exactly A es) j = false
 pairs (interval A x y) j = false
 
+-- Marks of a constraint: the literals that it needs, then three more: a rule of it needs two facts of one class; it may rest; it has a split.
+abbrev pub pairMark : ℕ
+pairMark = literalCount
+
+abbrev pub restMark : ℕ
+restMark = literalCount + 1
+
+abbrev pub splitMark : ℕ
+splitMark = literalCount + 2
+
+abbrev pub markCount : ℕ
+markCount = literalCount + 3
+
+-- the words: one for each constraint, then one for each mark
+abbrev pub markWord : ℕ → ℕ
+markWord k = mostConstraints + k
+
+abbrev pub wordCount : ℕ
+wordCount = mostConstraints + markCount
+
 -- What is prepared once a run, as bits. By constraint, its entries; by literal, at least the constraints that need it; then at least those that a merge can wake; a word of which nothing is said; and last, at least those that have a split.
 pub record WordsOf (ls : List Constraint) (words : List ℕ) : Type 0 where
-  pub long : length words ≡ 67
+  pub long : length words ≡ wordCount
   pub entries : (i : ℕ) → i < length ls → (h : ℕ) → bit (getD words i 0) h ≡ any (λ (e : Term). eqb (e .index) h) (entriesOf (getD ls i noConstraint))
   pub small : (i : ℕ) → i < length ls → getD words i 0 < 2 ^ 64
-  pub needing : (i : ℕ) → i < length ls → (j k : ℕ) → RuleOf (getD ls i noConstraint) j → needs (getD ls i noConstraint) j k ≡ true → bit (getD words (48 + k) 0) i ≡ true
-  pub paired : (i : ℕ) → i < length ls → (j : ℕ) → RuleOf (getD ls i noConstraint) j → pairs (getD ls i noConstraint) j ≡ true → bit (getD words 64 0) i ≡ true
-  pub splits : (i : ℕ) → i < length ls → (j : ℕ) → InSpan (splitSpan (getD ls i noConstraint)) j → bit (getD words 66 0) i ≡ true
-  pub low : (k : ℕ) → k < 17 → (i : ℕ) → bit (getD words (48 + k) 0) i ≡ true → i < length ls
+  pub needing : (i : ℕ) → i < length ls → (j k : ℕ) → RuleOf (getD ls i noConstraint) j → needs (getD ls i noConstraint) j k ≡ true → bit (getD words (markWord k) 0) i ≡ true
+  pub paired : (i : ℕ) → i < length ls → (j : ℕ) → RuleOf (getD ls i noConstraint) j → pairs (getD ls i noConstraint) j ≡ true → bit (getD words (markWord pairMark) 0) i ≡ true
+  pub splits : (i : ℕ) → i < length ls → (j : ℕ) → InSpan (splitSpan (getD ls i noConstraint)) j → bit (getD words (markWord splitMark) 0) i ≡ true
+  pub low : (k : ℕ) → k ≤ pairMark → (i : ℕ) → bit (getD words (markWord k) 0) i ≡ true → i < length ls

@@ -11,6 +11,7 @@ use lib.Dec.{eqb}
 use lib.Bits.{bitAnd}
 use lib.Pow.{pow-lt}
 use borrow.Author.Tests.{eqb-true, eq-eqb, ne-eqb}
+use Rattle.calculus.specs.Limits.{mostSets, mostTerms}
 use Rattle.calculus.specs.Lists.{upFrom, all, any, first, bit, Each}
 use Rattle.calculus.specs.Terms.{Term, SetVar, term, setVar}
 use Rattle.calculus.specs.Relations.{Relation, Negation, Operand, Literal, applies, propagation, negationRow}
@@ -26,7 +27,7 @@ use Rattle.calculus.specs.Relations.{operandOf}
 use Rattle.calculus.proofs.Walk.{walk-root, root-walk}
 use Rattle.calculus.specs.Invariants.{ConstraintIn}
 use Rattle.branch.specs.Held.{rootOf}
-use Rattle.branch.specs.Rows.{known, RowsOf}
+use Rattle.branch.specs.Rows.{known, RowsOf, literalCount}
 use Rattle.branch.proofs.Roots.{root-is, root-range}
 use Rattle.places.specs.Places.{RuleOf, rowOf, moveAt, listMove, entriesOf, roots, positions, firstAt}
 use Rattle.places.proofs.Offered.{by-position}
@@ -54,7 +55,7 @@ use Rattle.rules.proofs.RowBits.{known-in, known-out, applies-at, laid-
 module _ (ps rows es : List ℕ) (j : ℕ) where
   abbrev pub IsWord : Coded → ℕ → Type 0
   IsWord (Member t A) w = w ≡ bitAnd (2 ^ rootOf ps (t .0)) (2 ^ 64 - 1 - getD rows (A .0) 0)
-  IsWord (Nonmember t A) w = w ≡ bitAnd (2 ^ rootOf ps (t .0)) (2 ^ 64 - 1 - getD rows (8 + A .0) 0)
+  IsWord (Nonmember t A) w = w ≡ bitAnd (2 ^ rootOf ps (t .0)) (2 ^ 64 - 1 - getD rows (mostSets + A .0) 0)
   IsWord (Equated t u) w = w ≡ bitAnd (2 ^ rootOf ps (t .0)) (2 ^ 64 - 1 - 2 ^ rootOf ps (u .0))
   IsWord (Different t u) w = w ≡ bitAnd (2 ^ rootOf ps (t .0)) (2 ^ rootOf ps (u .0))
   IsWord (Related k A B C) w = (splitting j ≡ false → w ≡ forcedWord rows (laid (sets A B C) (numbered j))) × (splitting j ≡ true → w ≡ dividedWord rows (parted (sets A B C) (numbered j)))
@@ -77,7 +78,7 @@ class-known b h e es =
     any-map (all (calculus.known b)) (λ (x : Term). Same (term h) x ∷ []) (map term es) ∙ any-map (λ (x : Term). all (calculus.known b) (Same (term h) x ∷ [])) term es
     ∙ ap (λ (f : ℕ → Bool). any f es) (fun-ext (λ x. and-true (eqb (rootAt b h) (rootAt b x)) ∙ ap₂ eqb e (root-is b x) ∙ turned h (rootOf (b .parents) x)))
 
-module _ (n : ℕ) (b : Branch) (rows : List ℕ) (of : RowsOf b rows) (fall : Falls (b .parents)) (few : n ≤ 64) where
+module _ (n : ℕ) (b : Branch) (rows : List ℕ) (of : RowsOf b rows) (fall : Falls (b .parents)) (few : n ≤ mostTerms) where
   abbrev rt : ℕ → ℕ
   rt t = rootOf (b .parents) t
 
@@ -87,14 +88,14 @@ module _ (n : ℕ) (b : Branch) (rows : List ℕ) (of : RowsOf b rows) (fall : F
   low : (t : ℕ) → t < n → rt t < n
   low t l = root-range b fall n t (rt t) l (sym (is t))
 
-  low64 : (t : ℕ) → t < n → rt t < 64
+  low64 : (t : ℕ) → t < n → rt t < mostTerms
   low64 t l = let k = low t l in omega arith
 
   own : (t : ℕ) → rootAt b (rt t) ≡ rt t
   own t = is (rt t) ∙ root-own (b .parents) fall t
 
   -- what a row says of a root
-  row-at : (k t : ℕ) → k < 16 → t < n → bit (getD rows k 0) (rt t) ≡ known b k (rt t)
+  row-at : (k t : ℕ) → k < literalCount → t < n → bit (getD rows k 0) (rt t) ≡ known b k (rt t)
   row-at k t l m = of .says k (rt t) l (low64 t m) ∙ ap (λ (q : Bool). q && known b k (rt t)) (eq-eqb (rootAt b (rt t)) (rt t) (own t))
 
   -- a rule that is tested at the root of term t alone
@@ -112,7 +113,7 @@ module _ (n : ℕ) (b : Branch) (rows : List ℕ) (of : RowsOf b rows) (fall : F
 
   -- ---- relations
 
-  module _ (k : Relation) (A B C : SetVar) (j : ℕ) (r : RuleOf (relation k A B C) j) (lows : (A .index < 8) × (B .index < 8) × (C .index < 8)) where
+  module _ (k : Relation) (A B C : SetVar) (j : ℕ) (r : RuleOf (relation k A B C) j) (lows : (A .index < mostSets) × (B .index < mostSets) × (C .index < mostSets)) where
     abbrev K : ℕ → Literal → Bool
     K h l = known b (numberOf (operandOf (A .index) (B .index) (C .index)) l) h
 
@@ -120,7 +121,7 @@ module _ (n : ℕ) (b : Branch) (rows : List ℕ) (of : RowsOf b rows) (fall : F
     here h e = applies-at b h h e A B C lows (rowOf k j) ∙ ap (applies (K h)) (row-of k A B C j r .is)
 
     -- the code's test at every root is the rule's
-    test-fits : (w : ℕ) (t : (Literal → Bool) → Bool) → ((h : ℕ) → h < 64 → bit w h ≡ (eqb (rootAt b h) h && t (K h))) → ((f : Literal → Bool) → applies f (numbered j) ≡ t f) → Fits n b (relation k A B C) j w
+    test-fits : (w : ℕ) (t : (Literal → Bool) → Bool) → ((h : ℕ) → h < mostTerms → bit w h ≡ (eqb (rootAt b h) h && t (K h))) → ((f : Literal → Bool) → applies f (numbered j) ≡ t f) → Fits n b (relation k A B C) j w
     test-fits w t f g = roots-fits n b (relation k A B C) j few refl (λ p. refl) w (λ h l. f h l ∙ root-bits (eqb (rootAt b h) h) (t (K h)) (applies (calculus.known b) (moveAt b (relation k A B C) j h .1)) (λ q. sym (here h (eqb-true (rootAt b h) h q) ∙ g (K h))))
 
     abbrev S : Operand → ℕ
@@ -134,7 +135,7 @@ module _ (n : ℕ) (b : Branch) (rows : List ℕ) (of : RowsOf b rows) (fall : F
 
   -- ---- negations
 
-  denied-fits : (k : Negation) (A B C : SetVar) (t j : ℕ) → (A .index < 8) × (B .index < 8) × (C .index < 8) → t < n → (w : ℕ) → w ≡ deniedWord rows (denying (operandOf (A .index) (B .index) (C .index)) (negationRow k)) (rt t) → Fits n b (negation k A B C (term t)) j w
+  denied-fits : (k : Negation) (A B C : SetVar) (t j : ℕ) → (A .index < mostSets) × (B .index < mostSets) × (C .index < mostSets) → t < n → (w : ℕ) → w ≡ deniedWord rows (denying (operandOf (A .index) (B .index) (C .index)) (negationRow k)) (rt t) → Fits n b (negation k A B C (term t)) j w
   unfolding deniedWord
   denied-fits k A B C t j lows lt w f =
       one-at (negation k A B C (term t)) j t lt refl (λ p. refl) (deniedTest K (negationRow k)) (applies-at b t (rt t) (is t) A B C lows (negationRow k) ∙ denied-row k K) w
@@ -155,7 +156,7 @@ module _ (n : ℕ) (b : Branch) (rows : List ℕ) (of : RowsOf b rows) (fall : F
 
   -- ---- lists
 
-  module _ (A : SetVar) (lowA : A .index < 8) where
+  module _ (A : SetVar) (lowA : A .index < mostSets) where
     abbrev row : ℕ
     row = getD rows (A .index) 0
 
@@ -231,12 +232,12 @@ module _ (n : ℕ) (b : Branch) (rows : List ℕ) (of : RowsOf b rows) (fall : F
 each-term : (n : ℕ) (es : List ℕ) → Each (λ (e : Term). e .index < n) (map term es) → Each (λ e. e < n) es
 each-term n = map-Each (λ (e : Term). e .index < n) term
 
-fits-of : (n : ℕ) (b : Branch) (rows es : List ℕ) (j : ℕ) → RowsOf b rows → Falls (b .parents) → n ≤ 64 → (l : Coded) → entriesOf (decoded (map term es) l) ≡ map term es → ConstraintIn n 8 (decoded (map term es) l) → RuleOf (decoded (map term es) l) j → (w : ℕ) → IsWord (b .parents) rows es j l w → Fits n b (decoded (map term es) l) j w
+fits-of : (n : ℕ) (b : Branch) (rows es : List ℕ) (j : ℕ) → RowsOf b rows → Falls (b .parents) → n ≤ mostTerms → (l : Coded) → entriesOf (decoded (map term es) l) ≡ map term es → ConstraintIn n mostSets (decoded (map term es) l) → RuleOf (decoded (map term es) l) j → (w : ℕ) → IsWord (b .parents) rows es j l w → Fits n b (decoded (map term es) l) j w
 fits-of n b rows es j of fall few (Member t A) q c r w i =
     one-but n b rows of fall few (member (term (t .0)) (setVar (A .0))) j (t .0) (c .0) refl (λ p. refl) (getD rows (A .0) 0) (of .small (A .0) (omega (arith, c .1))) _ (row-at n b rows of fall few (A .0) (t .0) (omega (arith, c .1)) (c .0))
     (once (calculus.known b (In (term (t .0)) (setVar (A .0)))) ∙ ap not (known-in b (t .0) (rootOf (b .parents) (t .0)) (root-is b (t .0)) (setVar (A .0)) (c .1))) w i
 fits-of n b rows es j of fall few (Nonmember t A) q c r w i =
-    one-but n b rows of fall few (nonmember (term (t .0)) (setVar (A .0))) j (t .0) (c .0) refl (λ p. refl) (getD rows (8 + A .0) 0) (of .small (8 + A .0) (omega (arith, c .1))) _ (row-at n b rows of fall few (8 + A .0) (t .0) (omega (arith, c .1)) (c .0))
+    one-but n b rows of fall few (nonmember (term (t .0)) (setVar (A .0))) j (t .0) (c .0) refl (λ p. refl) (getD rows (mostSets + A .0) 0) (of .small (mostSets + A .0) (omega (arith, c .1))) _ (row-at n b rows of fall few (mostSets + A .0) (t .0) (omega (arith, c .1)) (c .0))
     (once (calculus.known b (Out (term (t .0)) (setVar (A .0)))) ∙ ap not (known-out b (t .0) (rootOf (b .parents) (t .0)) (root-is b (t .0)) (setVar (A .0)) (c .1))) w i
 fits-of n b rows es j of fall few (Equated t u) q c r w i =
     one-but n b rows of fall few (same (term (t .0)) (term (u .0))) j (t .0) (c .0) refl (λ p. refl) (2 ^ rootOf (b .parents) (u .0)) (pow-lt (low64 n b rows of fall few (u .0) (c .1))) _ (bit-pow (rootOf (b .parents) (u .0)) (rootOf (b .parents) (t .0)))
@@ -258,8 +259,8 @@ fits-of n b rows es j of fall few (Interval A x y) q c r w i =
 
 -- for the code: l is what was matched as m
 module _ {es : List ℕ} {word j : ℕ} {l m : Coded} (e : l ≡ m) (q : Asked es word l j) where
-  pub in-range : ConstraintIn 64 8 (decoded (map term es) m)
-  in-range = subst (λ (x : Coded). ConstraintIn 64 8 (decoded (map term es) x)) e (q .handled .in-range)
+  pub in-range : ConstraintIn mostTerms mostSets (decoded (map term es) m)
+  in-range = subst (λ (x : Coded). ConstraintIn mostTerms mostSets (decoded (map term es) x)) e (q .handled .in-range)
 
   pub fits-right : (ps rows : List ℕ) → Lent ps rows → (w : ℕ) → IsWord ps rows es j m w → FitsFor ps rows es l j w
   fits-right ps rows lent w i n b few c s =
@@ -284,7 +285,7 @@ denied-word {l} {k} {A} {B} {C} e rows w h x q f = f ∙ ap (λ (x : Denial). de
     seven Unequal = refl
 
 -- the entries are terms below n, and so below 64
-entries-in : (n : ℕ) (l : Constraint) → ConstraintIn n 8 l → Each (λ (e : Term). e .index < n) (entriesOf l)
+entries-in : (n : ℕ) (l : Constraint) → ConstraintIn n mostSets l → Each (λ (e : Term). e .index < n) (entriesOf l)
 entries-in n (member t A) c = tt
 entries-in n (nonmember t A) c = tt
 entries-in n (same t u) c = tt
@@ -294,10 +295,10 @@ entries-in n (negation k A B C w) c = tt
 entries-in n (exactly A es) c = c .1
 entries-in n (interval A x y) c = c .1
 
-pub entries-low : (n : ℕ) (es : List ℕ) (l : Coded) → Handled es l → ConstraintIn n 8 (decoded (map term es) l) → Each (λ e. e < n) es
+pub entries-low : (n : ℕ) (es : List ℕ) (l : Coded) → Handled es l → ConstraintIn n mostSets (decoded (map term es) l) → Each (λ e. e < n) es
 entries-low n es l h c = each-term n es (subst (Each (λ (e : Term). e .index < n)) (h .entries-are) (entries-in n (decoded (map term es) l) c))
 
-pub entries-below : (es : List ℕ) (l : Coded) → Handled es l → Each (λ e. e < 64) es
+pub entries-below : (es : List ℕ) (l : Coded) → Handled es l → Each (λ e. e < mostTerms) es
 entries-below es l h = entries-low 64 es l h (h .in-range)
 
 -- the number of a relation's rule

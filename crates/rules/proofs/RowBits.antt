@@ -9,6 +9,7 @@ use lib.Dec.{eqb}
 use lib.Bits.{bitAnd, bitOr, and-lt, or-lt}
 use lib.Pow.{pow-lt}
 use borrow.Author.Tests.{lt-ltb, le-ltb}
+use Rattle.calculus.specs.Limits.{mostSets, mostTerms}
 use Rattle.calculus.specs.Lists.{bit}
 use Rattle.calculus.specs.Terms.{SetVar, term, setVar}
 use Rattle.calculus.specs.Relations.{Rule, Operand, Literal, applies}
@@ -20,7 +21,7 @@ use Rattle.calculus.proofs.Masks.{bit-or, bit-and, bit-pow}
 use Rattle.calculus.specs.Relations.{operandOf}
 use Rattle.calculus.proofs.RuleLaws.{applies-map}
 use Rattle.bits.proofs.Bits.{bit-without}
-use Rattle.branch.specs.Rows.{known, RowsOf}
+use Rattle.branch.specs.Rows.{known, RowsOf, literalCount}
 use Rattle.terms.specs.declared.SetVar.{SetVar as SetIndex}
 use Rattle.rules.specs.declared.Literal.{Literal as Coded}
 use Rattle.rules.specs.declared.Row.{Row}
@@ -33,16 +34,16 @@ use Rattle.rules.proofs.Lowest.{at-one}
 -- ---- literals: of a term t whose root is h
 
 module _ (b : Branch) (t h : ℕ) (own : rootAt b t ≡ h) where
-  pub known-in : (X : SetVar) → X .index < 8 → calculus.known b (In (term t) X) ≡ known b (X .index) h
-  known-in X l = ap (λ (k : ℕ). inside b (term k) X) own ∙ sym (ap (λ (q : Bool). cond q (inside b (term h) X) (outside b (term h) (setVar (X .index - 8)))) (lt-ltb (X .index) 8 l))
+  pub known-in : (X : SetVar) → X .index < mostSets → calculus.known b (In (term t) X) ≡ known b (X .index) h
+  known-in X l = ap (λ (k : ℕ). inside b (term k) X) own ∙ sym (ap (λ (q : Bool). cond q (inside b (term h) X) (outside b (term h) (setVar (X .index - mostSets)))) (lt-ltb (X .index) mostSets l))
 
-  pub known-out : (X : SetVar) → X .index < 8 → calculus.known b (Out (term t) X) ≡ known b (8 + X .index) h
+  pub known-out : (X : SetVar) → X .index < mostSets → calculus.known b (Out (term t) X) ≡ known b (mostSets + X .index) h
   known-out X l =
-      let e : 8 + X .index - 8 ≡ X .index = omega arith in
+      let e : mostSets + X .index - mostSets ≡ X .index = omega arith in
       ap (λ (k : ℕ). outside b (term k) X) own
-      ∙ sym (ap₂ (λ (q : Bool) (k : ℕ). cond q (inside b (term h) (setVar (8 + X .index))) (outside b (term h) (setVar k))) (le-ltb (8 + X .index) 8 (omega arith)) e)
+      ∙ sym (ap₂ (λ (q : Bool) (k : ℕ). cond q (inside b (term h) (setVar (mostSets + X .index))) (outside b (term h) (setVar k))) (le-ltb (mostSets + X .index) 8 (omega arith)) e)
 
-  module _ (A B C : SetVar) (low : (A .index < 8) × (B .index < 8) × (C .index < 8)) where
+  module _ (A B C : SetVar) (low : (A .index < mostSets) × (B .index < mostSets) × (C .index < mostSets)) where
     literal-known : (l : Literal) → calculus.known b (factOf (term t) (operandOf A B C) l) ≡ known b (numberOf (operandOf (A .index) (B .index) (C .index)) l) h
     literal-known (R.In R.A) = known-in A (low .0)
     literal-known (R.In R.B) = known-in B (low .1)
@@ -57,16 +58,16 @@ module _ (b : Branch) (t h : ℕ) (own : rootAt b t ≡ h) where
 
 -- ---- what the code lays out of a rule has rows
 
-module _ (A B C : ℕ) (low : (A < 8) × (B < 8) × (C < 8)) where
+module _ (A B C : ℕ) (low : (A < mostSets) × (B < mostSets) × (C < mostSets)) where
   abbrev S : Operand → ℕ
   S = operandOf A B C
 
-  operand-low : (p : Operand) → S p < 8
+  operand-low : (p : Operand) → S p < mostSets
   operand-low R.A = low .0
   operand-low R.B = low .1
   operand-low R.C = low .2
 
-  pub number-low : (l : Literal) → numberOf S l < 16
+  pub number-low : (l : Literal) → numberOf S l < literalCount
   number-low (R.In p) = omega (arith, operand-low p)
   number-low (R.Out p) = omega (arith, operand-low p)
 
@@ -103,15 +104,15 @@ module _ (b : Branch) (rows : List ℕ) (of : RowsOf b rows) where
   small : (l : Coded) → Low l → row l < 2 ^ 64
   small l = of .small (l .0)
 
-  decided-small : (a : SetIndex) → a .0 < 8 → decidedWord rows a < 2 ^ 64
+  decided-small : (a : SetIndex) → a .0 < mostSets → decidedWord rows a < 2 ^ 64
   unfolding decidedWord
-  decided-small a l = or-lt 64 (getD rows (a .0) 0) (getD rows (8 + a .0) 0) (of .small (a .0) (omega arith)) (of .small (8 + a .0) (omega arith))
+  decided-small a l = or-lt 64 (getD rows (a .0) 0) (getD rows (mostSets + a .0) 0) (of .small (a .0) (omega arith)) (of .small (mostSets + a .0) (omega arith))
 
   pub met-small : (c : Child) → LowChild c → metWord rows c < 2 ^ 64
   unfolding metWord
   met-small c (p, q, r) = and-lt 64 (bitAnd (row (c .0)) (row (c .1))) (row (c .2)) (and-lt 64 (row (c .0)) (row (c .1)) (small (c .0) p) (small (c .1) q)) (small (c .2) r)
 
-  module _ (h : ℕ) (l : h < 64) where
+  module _ (h : ℕ) (l : h < mostTerms) where
     abbrev own : Bool
     own = eqb (rootAt b h) h
 
@@ -128,16 +129,16 @@ module _ (b : Branch) (rows : List ℕ) (of : RowsOf b rows) where
         ∙ ap₂ (λ (m n : Bool). m && not n) (bit-and (row (r .0)) (row (r .1)) h ∙ ap₂ _&&_ (says (r .0) x) (says (r .1) y)) (says (r .2) z)
         ∙ forced-root own (K (r .0)) (K (r .1)) (K (r .2))
 
-    decided-bits : (a : SetIndex) → a .0 < 8 → bit (decidedWord rows a) h ≡ ((own && known b (a .0) h) || (own && known b (8 + a .0) h))
+    decided-bits : (a : SetIndex) → a .0 < mostSets → bit (decidedWord rows a) h ≡ ((own && known b (a .0) h) || (own && known b (mostSets + a .0) h))
     unfolding decidedWord
-    decided-bits a p = bit-or (getD rows (a .0) 0) (getD rows (8 + a .0) 0) h ∙ ap₂ _||_ (of .says (a .0) h (omega arith) l) (of .says (8 + a .0) h (omega arith) l)
+    decided-bits a p = bit-or (getD rows (a .0) 0) (getD rows (mostSets + a .0) 0) h ∙ ap₂ _||_ (of .says (a .0) h (omega arith) l) (of .says (mostSets + a .0) h (omega arith) l)
 
-    pub divided-bits : (s : Split) → LowSplit s → bit (dividedWord rows s) h ≡ (own && (K (s .0) && not ((known b (s .1 .0) h || known b (8 + s .1 .0) h) || (known b (s .2 .0) h || known b (8 + s .2 .0) h))))
+    pub divided-bits : (s : Split) → LowSplit s → bit (dividedWord rows s) h ≡ (own && (K (s .0) && not ((known b (s .1 .0) h || known b (mostSets + s .1 .0) h) || (known b (s .2 .0) h || known b (mostSets + s .2 .0) h))))
     unfolding dividedWord
     divided-bits s (p, q, r) =
         bit-without 64 (row (s .0)) (bitOr (decidedWord rows (s .1)) (decidedWord rows (s .2))) h (small (s .0) p) (or-lt 64 (decidedWord rows (s .1)) (decidedWord rows (s .2)) (decided-small (s .1) q) (decided-small (s .2) r))
         ∙ ap₂ (λ (m n : Bool). m && not n) (says (s .0) p) (bit-or (decidedWord rows (s .1)) (decidedWord rows (s .2)) h ∙ ap₂ _||_ (decided-bits (s .1) q) (decided-bits (s .2) r))
-        ∙ divided-root own (K (s .0)) (known b (s .1 .0) h) (known b (8 + s .1 .0) h) (known b (s .2 .0) h) (known b (8 + s .2 .0) h)
+        ∙ divided-root own (K (s .0)) (known b (s .1 .0) h) (known b (mostSets + s .1 .0) h) (known b (s .2 .0) h) (known b (mostSets + s .2 .0) h)
 
     pub met-bits : (c : Child) → LowChild c → bit (metWord rows c) h ≡ (own && ((K (c .0) && K (c .1)) && K (c .2)))
     unfolding metWord
@@ -146,11 +147,11 @@ module _ (b : Branch) (rows : List ℕ) (of : RowsOf b rows) where
         ∙ met-root own (K (c .0)) (K (c .1)) (K (c .2))
 
 -- one root, but not where a word has it
-pub but-bits : (r w : ℕ) → r < 64 → w < 2 ^ 64 → (h : ℕ) → bit (bitAnd (2 ^ r) (2 ^ 64 - 1 - w)) h ≡ (eqb h r && not (bit w r))
+pub but-bits : (r w : ℕ) → r < mostTerms → w < 2 ^ 64 → (h : ℕ) → bit (bitAnd (2 ^ r) (2 ^ 64 - 1 - w)) h ≡ (eqb h r && not (bit w r))
 but-bits r w l s h = bit-without 64 (2 ^ r) w h (pow-lt l) s ∙ ap (λ (q : Bool). q && not (bit w h)) (bit-pow r h) ∙ at-one (λ k. not (bit w k)) h r
 
 -- but not where any of three has it
-pub but-three : (r x y z : ℕ) → r < 64 → x < 2 ^ 64 → y < 2 ^ 64 → z < 2 ^ 64 → (h : ℕ) → bit (bitAnd (bitAnd (bitAnd (2 ^ r) (2 ^ 64 - 1 - x)) (2 ^ 64 - 1 - y)) (2 ^ 64 - 1 - z)) h ≡ (eqb h r && ((not (bit x r) && not (bit y r)) && not (bit z r)))
+pub but-three : (r x y z : ℕ) → r < mostTerms → x < 2 ^ 64 → y < 2 ^ 64 → z < 2 ^ 64 → (h : ℕ) → bit (bitAnd (bitAnd (bitAnd (2 ^ r) (2 ^ 64 - 1 - x)) (2 ^ 64 - 1 - y)) (2 ^ 64 - 1 - z)) h ≡ (eqb h r && ((not (bit x r) && not (bit y r)) && not (bit z r)))
 but-three r x y z l p q s h =
     let one : 2 ^ r < 2 ^ 64 = pow-lt l in
     let n : (m : ℕ) → 2 ^ 64 - 1 - m < 2 ^ 64 = λ m. omega (arith, one) in

@@ -5,6 +5,7 @@ use mathlib.Core.List.{List, [], _∷_, _++_}
 use Prim.Native.Nat.{ℕ, _+_, _-_, _≤_, _<_}
 use lib.ListN.{length, getD}
 use lib.Dec.{eqb}
+use Rattle.calculus.specs.Limits.{mostSets}
 use Rattle.calculus.specs.Relations.{Rule, propagation, rows, equal, union, disjoint, subset, intersection, unequal, Operand, operandOf, negationRow}
 use Rattle.calculus.specs.Relations as R
 use Rattle.terms.specs.declared.SetVar.{SetVar}
@@ -36,14 +37,14 @@ pub record HasRow (j : ℕ) (a b : SetVar) : Type 0 where
   pub high : j ≤ 18
   pub no-negation : ¬ (j ≡ 7)
   pub no-split : ¬ (j ≡ 12)
-  pub first-set : a .0 < 8
-  pub second-set : b .0 < 8
+  pub first-set : a .0 < mostSets
+  pub second-set : b .0 < mostSets
 
 pub record HasChild (j : ℕ) (a b : SetVar) (n : ℕ) : Type 0 where
   pub low : 5 ≤ j
   pub high : j ≤ 18
-  pub first-set : a .0 < 8
-  pub second-set : b .0 < 8
+  pub first-set : a .0 < mostSets
+  pub second-set : b .0 < mostSets
   pub there : n < length (numbered j .alternatives)
 
 -- the rules of relations that split
@@ -53,7 +54,7 @@ splitting j = eqb j 12
 -- a literal's number, and the operand that it is of
 abbrev pub numberOf : (Operand → ℕ) → R.Literal → ℕ
 numberOf s (R.In p) = s p
-numberOf s (R.Out p) = 8 + s p
+numberOf s (R.Out p) = mostSets + s p
 
 abbrev pub operandIn : R.Literal → Operand
 operandIn (R.In p) = p

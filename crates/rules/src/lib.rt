@@ -3,12 +3,14 @@ use bits::bit_at;
 use bits::has_bit;
 use branch::find;
 use constraints::Constraint;
+use terms::OUT;
 use terms::SetVar;
 use terms::Term;
 ghost use mathlib.Core.Path.{_≡_};
 ghost use mathlib.Core.List.{[]};
 ghost use Prim.Native.Nat.{_^_, _<_};
 ghost use lib.Bits.{bitAnd};
+ghost use Rattle.calculus.specs.Limits.{mostSets, mostTerms};
 ghost use Rattle.calculus.specs.Lists.{Each};
 ghost use Rattle.calculus.specs.Invariants.{ConstraintIn};
 ghost use Rattle.branch.specs.Held.{rootOf};
@@ -17,7 +19,7 @@ ghost use Rattle.rules.specs.Spans.{Spanned};
 ghost use Rattle.rules.specs.Rows.{sets, numbered, HasRow, HasChild, laid, parted, only, child, literalsOf, countOf, denying};
 ghost use Rattle.rules.specs.Words.{unsharedOf, restsBy, Rooted, Lent, Long, Low, rowAt, LowRow, LowSplit, LowChild, LowDenial, forcedWord, dividedWord, metWord, deniedWord, RootBits, missed, EntryBits, Listing, Asked, FitsFor};
 
-// A literal, by its number: k is "in set k", 8 + k is "out of set k".
+// A literal, by its number: k is "in set k", OUT + k is "out of set k".
 pub struct Literal(pub u8);
 
 // Rules by number, from the first up to the end.
@@ -76,8 +78,8 @@ pub fn row_of(rule: u8, a: SetVar, b: SetVar, c: SetVar) -> Row
     let ina = Literal(a.0);
     let inb = Literal(b.0);
     let inc = Literal(c.0);
-    let outa = Literal(8 + a.0);
-    let outb = Literal(8 + b.0);
+    let outa = Literal(OUT + a.0);
+    let outb = Literal(OUT + b.0);
     match rule {
         5 => Row(ina, ina, inb),
         6 => Row(inb, inb, ina),
@@ -104,11 +106,11 @@ pub fn split_of(a: SetVar, b: SetVar, c: SetVar) -> Split
 
 // Rule 7.
 fn denial_of(a: SetVar, b: SetVar, c: SetVar) -> Denial
-    requires { ⌜ (a .0 < 8) × (b .0 < 8) ⌝ }
+    requires { ⌜ (a .0 < mostSets) × (b .0 < mostSets) ⌝ }
     ensures { λ r. ⌜ r ≡ denying (sets a b c) (numbered 7) ⌝ }
 {
-    let x = Child(Literal(a.0), Literal(8 + b.0), Literal(8 + b.0));
-    let y = Child(Literal(8 + a.0), Literal(b.0), Literal(b.0));
+    let x = Child(Literal(a.0), Literal(OUT + b.0), Literal(OUT + b.0));
+    let y = Child(Literal(OUT + a.0), Literal(b.0), Literal(b.0));
     Denial(x, y, y)
 }
 
@@ -146,7 +148,7 @@ pub fn child_of(rule: u8, a: SetVar, b: SetVar, c: SetVar, n: usize) -> Child
         if n == 0 {
             return alone(Literal(s.1.0));
         }
-        return Child(Literal(8 + s.1.0), Literal(s.2.0), Literal(s.2.0));
+        return Child(Literal(OUT + s.1.0), Literal(s.2.0), Literal(s.2.0));
     }
     alone(row_of(rule, a, b, c).2)
 }
@@ -172,8 +174,8 @@ fn divided(rows: &[u64], s: Split) -> u64
     requires { ⌜ Long (now rows) × LowSplit s ⌝ }
     ensures { λ w. ⌜ w ≡ dividedWord (now (rows .entry)) s ⌝ }
 {
-    let left = of(rows, Literal(s.1.0)) | of(rows, Literal(8 + s.1.0));
-    let right = of(rows, Literal(s.2.0)) | of(rows, Literal(8 + s.2.0));
+    let left = of(rows, Literal(s.1.0)) | of(rows, Literal(OUT + s.1.0));
+    let right = of(rows, Literal(s.2.0)) | of(rows, Literal(OUT + s.2.0));
     of(rows, s.0) & !(left | right)
 }
 
@@ -187,15 +189,15 @@ fn met(rows: &[u64], c: Child) -> u64
 
 // The root of t's class.
 pub fn root(parents: &[u8], t: Term) -> Term
-    requires { ⌜ (t .0 < 64) × Rooted (now parents) ⌝ }
-    ensures { λ r. ⌜ (r .0 ≡ rootOf (now (parents .entry)) (t .0)) × (r .0 < 64) ⌝ }
+    requires { ⌜ (t .0 < mostTerms) × Rooted (now parents) ⌝ }
+    ensures { λ r. ⌜ (r .0 ≡ rootOf (now (parents .entry)) (t .0)) × (r .0 < mostTerms) ⌝ }
 {
     Term(find(parents, t.0 as usize) as u8)
 }
 
 // The root of two terms' class, as a bit, if it is one: there rule 4 applies.
 pub fn together(parents: &[u8], t: Term, u: Term) -> u64
-    requires { ⌜ (t .0 < 64) × (u .0 < 64) × Rooted (now parents) ⌝ }
+    requires { ⌜ (t .0 < mostTerms) × (u .0 < mostTerms) × Rooted (now parents) ⌝ }
     ensures { λ r. ⌜ r ≡ bitAnd (2 ^ rootOf (now (parents .entry)) (t .0)) (2 ^ rootOf (now (parents .entry)) (u .0)) ⌝ }
 {
     bit_at(root(parents, t).0) & bit_at(root(parents, u).0)
@@ -203,7 +205,7 @@ pub fn together(parents: &[u8], t: Term, u: Term) -> u64
 
 // The root of a negation's witness, if its split applies there.
 fn denied(parents: &[u8], rows: &[u64], d: Denial, w: Term) -> u64
-    requires { ⌜ (w .0 < 64) × Lent (now parents) (now rows) × LowDenial d ⌝ }
+    requires { ⌜ (w .0 < mostTerms) × Lent (now parents) (now rows) × LowDenial d ⌝ }
     ensures { λ r. ⌜ r ≡ deniedWord (now (rows .entry)) d (rootOf (now (parents .entry)) (w .0)) ⌝ }
 {
     bit_at(root(parents, w).0) & !met(rows, d.0) & !met(rows, d.1) & !met(rows, d.2)
@@ -211,7 +213,7 @@ fn denied(parents: &[u8], rows: &[u64], d: Denial, w: Term) -> u64
 
 // The roots of the entries' classes.
 pub fn roots(list: &[u8], parents: &[u8]) -> u64
-    requires { ⌜ Each (λ e. e < 64) (now list) × Rooted (now parents) ⌝ }
+    requires { ⌜ Each (λ e. e < mostTerms) (now list) × Rooted (now parents) ⌝ }
     ensures { λ r. ⌜ RootBits (now (parents .entry)) (now (list .entry)) r ⌝ }
 {
     let mut found = 0u64;
@@ -223,7 +225,7 @@ pub fn roots(list: &[u8], parents: &[u8]) -> u64
 
 // The root of the first entry whose class is not in a row.
 fn first_missing(list: &[u8], parents: &[u8], row: u64) -> u64
-    requires { ⌜ Each (λ e. e < 64) (now list) × Rooted (now parents) ⌝ }
+    requires { ⌜ Each (λ e. e < mostTerms) (now list) × Rooted (now parents) ⌝ }
     ensures { λ r. ⌜ r ≡ missed (now (parents .entry)) row (now (list .entry)) ⌝ }
 {
     for p in 0..list.len() {
@@ -237,7 +239,7 @@ fn first_missing(list: &[u8], parents: &[u8], row: u64) -> u64
 
 // The entries of a list, as bits.
 pub fn entry_bits(list: &[u8]) -> u64
-    requires { ⌜ Each (λ e. e < 64) (now list) ⌝ }
+    requires { ⌜ Each (λ e. e < mostTerms) (now list) ⌝ }
     ensures { λ r. ⌜ EntryBits (now (list .entry)) r ⌝ }
 {
     let mut found = 0u64;
@@ -249,7 +251,7 @@ pub fn entry_bits(list: &[u8]) -> u64
 
 // What a list and its set do not share, as bits: for splits the roots of the set that are no entries, else the entries that are no roots of the set. Without any, rule 20 or rule 19 does not apply: a root that is an entry is in its own class.
 fn unshared(rows: &[u64], entries: u64, a: SetVar, split: bool) -> u64
-    requires { ⌜ Long (now rows) × (a .0 < 8) ⌝ }
+    requires { ⌜ Long (now rows) × (a .0 < mostSets) ⌝ }
     ensures { λ r. ⌜ r ≡ unsharedOf (now (rows .entry)) entries split a ⌝ }
 {
     let row = of(rows, Literal(a.0));
@@ -261,7 +263,7 @@ fn unshared(rows: &[u64], entries: u64, a: SetVar, split: bool) -> u64
 
 // One test shows that no propagation rule of a constraint applies, or no split. Only of constraints of kind 4 and of lists there is such a test.
 pub fn rests(parents: &[u8], rows: &[u64], entries: u64, l: Constraint, split: bool) -> bool
-    requires { ⌜ Lent (now parents) (now rows) × ConstraintIn 64 8 (decoded [] l) ⌝ }
+    requires { ⌜ Lent (now parents) (now rows) × ConstraintIn mostTerms mostSets (decoded [] l) ⌝ }
     ensures { λ r. ⌜ r ≡ restsBy (now (parents .entry)) (now (rows .entry)) entries split l ⌝ }
 {
     match l {
@@ -274,7 +276,7 @@ pub fn rests(parents: &[u8], rows: &[u64], entries: u64, l: Constraint, split: b
 
 // Rules 19 and 20, of a set and its entries.
 fn listing(parents: &[u8], rows: &[u64], list: &[u8], entries: u64, a: SetVar, rule: u8) -> u64
-    requires { ⌜ Lent (now parents) (now rows) × EntryBits (now list) entries × (a .0 < 8) ⌝ }
+    requires { ⌜ Lent (now parents) (now rows) × EntryBits (now list) entries × (a .0 < mostSets) ⌝ }
     ensures { λ r. ⌜ Listing (now (parents .entry)) (rowAt (now (rows .entry)) (record { 0 = a .0 })) (now (list .entry)) rule r ⌝ }
 {
     if rule == 19 {
@@ -290,7 +292,7 @@ pub fn fitting(parents: &[u8], rows: &[u64], list: &[u8], word: u64, l: Constrai
 {
     match l {
         Constraint::Member(t, a) => bit_at(root(parents, t).0) & !of(rows, Literal(a.0)),
-        Constraint::Nonmember(t, a) => bit_at(root(parents, t).0) & !of(rows, Literal(8 + a.0)),
+        Constraint::Nonmember(t, a) => bit_at(root(parents, t).0) & !of(rows, Literal(OUT + a.0)),
         Constraint::Same(t, u) => bit_at(root(parents, t).0) & !bit_at(root(parents, u).0),
         Constraint::Different(t, u) => together(parents, t, u),
         Constraint::Related(_, a, b, c) => {

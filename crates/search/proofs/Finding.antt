@@ -12,6 +12,7 @@ use lib.Dec.{eqb}
 use lib.Bits.{bitAnd}
 use lib.Count.{trailingZeros}
 use borrow.Author.Tests.{eq-eqb, ne-eqb}
+use Rattle.calculus.specs.Limits.{mostSets, mostTerms}
 use Rattle.calculus.specs.Lists.{upFrom, first, bit}
 use Rattle.calculus.specs.Terms.{Term, term}
 use Rattle.calculus.specs.Relations.{equal, union, disjoint, subset, intersection}
@@ -86,7 +87,7 @@ module _ (n : ℕ) (b : Branch) (fall : Falls (b .parents)) where
   entry-root (calculus.exactly A es) j p r e = rw (eq-eqb j 19 e) (root-root (getD es p (term 0) .index))
   entry-root (calculus.interval A x y) j p r e = rw (eq-eqb j 19 e) (root-root (getD (calculus.entries x y) p (term 0) .index))
 
-  concerned-root : (l : calculus.Constraint) (j p : ℕ) → n ≤ 64 → ConstraintIn 64 8 l → RuleOf l j → firstAt n b l j ≡ some p → rootAt b (moveAt b l j p .0 .index) ≡ moveAt b l j p .0 .index
+  concerned-root : (l : calculus.Constraint) (j p : ℕ) → n ≤ mostTerms → ConstraintIn mostTerms mostSets l → RuleOf l j → firstAt n b l j ≡ some p → rootAt b (moveAt b l j p .0 .index) ≡ moveAt b l j p .0 .index
   concerned-root l j p few c r f = go (ℕ-discrete j 19)
     where
       go : Dec (j ≡ 19) → rootAt b (moveAt b l j p .0 .index) ≡ moveAt b l j p .0 .index
@@ -99,11 +100,11 @@ module _ (n : ℕ) (b : Branch) (fall : Falls (b .parents)) where
 
 -- constraint i is decoded as l with its entries, which are also bits of a word, and its rules end at end
 pub record Here (split : Bool) (n : ℕ) (bs ps : List ℕ) (i end : ℕ) (es : List ℕ) (bits : ℕ) (l : Constraint) : Type 0 where
-  pub few : n ≤ 64
+  pub few : n ≤ mostTerms
   pub falls : Falls ps
   pub in-problem : i < length (constraintsOf (read bs))
   pub ends : end ≡ spanOf split (constraintOf bs i) .1
-  pub in-terms : ConstraintIn n 8 (constraintOf bs i)
+  pub in-terms : ConstraintIn n mostSets (constraintOf bs i)
   pub unpacked : Unpacked bs i es l
   pub entries : EntryBits es bits
 
@@ -130,7 +131,7 @@ module _ (split : Bool) (n : ℕ) (bs ps rows : List ℕ) where
 
 -- what `fitting` ensures of the word of rule j
 abbrev Fitting : (ps rows es : List ℕ) → Constraint → (j fit : ℕ) → Type 0
-Fitting ps rows es l j fit = (n : ℕ) (b : Branch) → n ≤ 64 → ConstraintIn n 8 (decoded (map term es) l) → Shown b ps rows → Fits n b (decoded (map term es) l) j fit
+Fitting ps rows es l j fit = (n : ℕ) (b : Branch) → n ≤ mostTerms → ConstraintIn n mostSets (decoded (map term es) l) → Shown b ps rows → Fits n b (decoded (map term es) l) j fit
 
 -- ---- how the search goes
 
@@ -162,7 +163,7 @@ rules-start {split} {i} {first} {end} {bs} {offsets = offsets} {witnesses} {es =
         falls = v .rooted .falls;
         in-problem = y .in-problem;
         ends = q .1;
-        in-terms = constraint-in bs (tableBy t offsets witnesses) i o k (t .terms) 8 (omega arith) (s .1);
+        in-terms = constraint-in bs (tableBy t offsets witnesses) i o k (t .terms) mostSets (omega arith) (s .1);
         unpacked = u;
         entries = record { below = entries-below es l (u .handled); bits = λ h. w .words-are .entries i (y .in-problem) h ∙ entries-by u h; small = w .words-are .small i (y .in-problem) };
       };
@@ -222,7 +223,7 @@ module _ {split : Bool} {n : ℕ} {bs ps rows : List ℕ} where
 
       module _ {fit : ℕ} (f : Fitting ps rows es l j fit) where
         fits : (b : Branch) → Shown b ps rows → Fits n b (constraintOf bs i) j fit
-        fits b z = subst (λ (x : calculus.Constraint). Fits n b x j fit) (sym (a .here .unpacked .is)) (f n b (a .here .few) (subst (ConstraintIn n 8) (a .here .unpacked .is) (a .here .in-terms)) z)
+        fits b z = subst (λ (x : calculus.Constraint). Fits n b x j fit) (sym (a .here .unpacked .is)) (f n b (a .here .few) (subst (ConstraintIn n mostSets) (a .here .unpacked .is) (a .here .in-terms)) z)
 
         -- a rule whose word is empty does not apply
         pub no-roots : fit ≡ 0 → {s : Found} → s ≡ r → AtRule split n bs ps rows i (j + 1) end es bits l s
@@ -254,7 +255,7 @@ module _ {split : Bool} {n : ℕ} {bs ps rows : List ℕ} where
       let v : InSpan (spanOf split c) j = in-span (a .rule) (a .in-span) in
       let d = a .rule .here in
       let fall : Falls (b .parents) = subst Falls (sym (y .parents-are)) (d .falls) in
-      let e : ConstraintIn 64 8 c = subst (ConstraintIn 64 8) (sym (d .unpacked .is)) (d .unpacked .handled .in-range) in
+      let e : ConstraintIn mostTerms mostSets c = subst (ConstraintIn mostTerms mostSets) (sym (d .unpacked .is)) (d .unpacked .handled .in-range) in
       let w = position-of n b c j p fall (d .few) e (rule-of split c j v) f in
       record {
         position = p;

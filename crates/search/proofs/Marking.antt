@@ -12,6 +12,7 @@ use lib.Dec.{eqb}
 use lib.Bits.{bitAnd, bitOr}
 use lib.Count.{trailingZeros}
 use borrow.Author.Tests.{eq-eqb, ne-eqb, eqb-true}
+use Rattle.calculus.specs.Limits.{mostConstraints}
 use Rattle.calculus.specs.Lists.{upFrom, any, keep, bit}
 use Rattle.calculus.specs.Terms.{Term}
 use Rattle.calculus.specs.Reading.{read}
@@ -22,10 +23,11 @@ use Rattle.problem.specs.declared.Totals.{Totals}
 use Rattle.problem.specs.Table.{Tabled, constraintsOf, constraintOf, tableBy}
 use Rattle.problem.proofs.Access.{constraint-count}
 use Rattle.places.specs.Places.{entriesOf}
+use Rattle.branch.specs.Rows.{literalCount}
 use Rattle.constraints.specs.declared.Constraint.{Constraint}
 use Rattle.constraints.specs.Decoded.{Unpacked}
 use Rattle.rules.specs.Words.{EntryBits}
-use Rattle.quiet.specs.Quiet.{WordsOf}
+use Rattle.quiet.specs.Quiet.{WordsOf, markCount, markWord, wordCount, pairMark, splitMark}
 use Rattle.search.specs.Marks.{NeedsOf, Marked}
 use Rattle.search.specs.Turns.{Turn}
 use Rattle.search.proofs.Turns.{entries-by}
@@ -34,16 +36,16 @@ use Rattle.search.proofs.Turns.{entries-by}
 
 -- what marking the literals that are left makes of the words now, marking all makes of the words before
 pub record Marking (all i : ℕ) (before words : List ℕ) (left : ℕ) : Type 0 where
-  pub small : left < 2 ^ 19
-  pub long : length words ≡ 67
+  pub small : left < 2 ^ markCount
+  pub long : length words ≡ wordCount
   pub rest : (after : List ℕ) → Marked left i words after → Marked all i before after
 
-pub mark-start : (i : ℕ) {all : ℕ} {words : List ℕ} → all < 2 ^ 19 → length words ≡ 67 → Marking all i words words all
+pub mark-start : (i : ℕ) {all : ℕ} {words : List ℕ} → all < 2 ^ markCount → length words ≡ wordCount → Marking all i words words all
 mark-start i h n = record { small = h; long = n; rest = λ after r. r }
 
 module _ {all i left : ℕ} {before words : List ℕ} (g : Marking all i before words left) where
   pub mark-end : left ≡ 0 → Marked all i before words
-  mark-end e = g .rest words (record { long = refl; front = λ k h. refl; bits = λ k m. sym (ap (λ (x : Bool). bit (getD words (48 + k) 0) m || (x && eqb m i)) (no-bit left k e) ∙ or-false (bit (getD words (48 + k) 0) m)) })
+  mark-end e = g .rest words (record { long = refl; front = λ k h. refl; bits = λ k m. sym (ap (λ (x : Bool). bit (getD words (markWord k) 0) m || (x && eqb m i)) (no-bit left k e) ∙ or-false (bit (getD words (markWord k) 0) m)) })
 
   -- the lowest literal first, and then the others
   module _ (some : ¬ (left ≡ 0)) where
@@ -53,21 +55,21 @@ module _ {all i left : ℕ} {before words : List ℕ} (g : Marking all i before 
     wide : left < 2 ^ 64
     wide = omega (arith, g .small)
 
-    pub low-lt : low < 19
-    low-lt = bit-low 19 left low (g .small) (lowest-set 64 left wide some)
+    pub low-lt : low < markCount
+    low-lt = bit-low markCount left low (g .small) (lowest-set 64 left wide some)
 
-    pub mark-next : {one : ℕ} → one ≡ 2 ^ i → Marking all i before (set words (48 + low) (bitOr (getD words (48 + low) 0) one)) (bitAnd left (left - 1))
-    mark-next {one} p = record { small = omega (arith, g .small, less-lt left some); long = length-set words (48 + low) word ∙ g .long; rest = λ after r. g .rest after (both after r) }
+    pub mark-next : {one : ℕ} → one ≡ 2 ^ i → Marking all i before (set words (markWord low) (bitOr (getD words (markWord low) 0) one)) (bitAnd left (left - 1))
+    mark-next {one} p = record { small = omega (arith, g .small, less-lt left some); long = length-set words (markWord low) word ∙ g .long; rest = λ after r. g .rest after (both after r) }
       where
         word : ℕ
-        word = bitOr (getD words (48 + low) 0) one
+        word = bitOr (getD words (markWord low) 0) one
 
-        same : (k m : ℕ) → Dec (k ≡ low) → (bit (getD (set words (48 + low) word) (48 + k) 0) m || (bit (bitAnd left (left - 1)) k && eqb m i)) ≡ (bit (getD words (48 + k) 0) m || (bit left k && eqb m i))
-        same k m (yes e) = rw (e, getD-set-same words (48 + low) word 0 (omega (arith, low-lt, g .long)), bit-or (getD words (48 + low) 0) one m, p, bit-pow i m, bit-less 64 left low wide some, lowest-set 64 left wide some, eq-eqb low low refl) (or-false (bit (getD words (48 + low) 0) m || eqb m i))
-        same k m (no e) = rw (getD-set-other words (48 + low) (48 + k) word 0 (λ q. e (omega arith)), bit-less 64 left k wide some, ne-eqb k low e, and-true (bit left k)) refl
+        same : (k m : ℕ) → Dec (k ≡ low) → (bit (getD (set words (markWord low) word) (markWord k) 0) m || (bit (bitAnd left (left - 1)) k && eqb m i)) ≡ (bit (getD words (markWord k) 0) m || (bit left k && eqb m i))
+        same k m (yes e) = rw (e, getD-set-same words (markWord low) word 0 (omega (arith, low-lt, g .long)), bit-or (getD words (markWord low) 0) one m, p, bit-pow i m, bit-less 64 left low wide some, lowest-set 64 left wide some, eq-eqb low low refl) (or-false (bit (getD words (markWord low) 0) m || eqb m i))
+        same k m (no e) = rw (getD-set-other words (markWord low) (markWord k) word 0 (λ q. e (omega arith)), bit-less 64 left k wide some, ne-eqb k low e, and-true (bit left k)) refl
 
-        both : (after : List ℕ) → Marked (bitAnd left (left - 1)) i (set words (48 + low) word) after → Marked left i words after
-        both after r = record { long = r .long ∙ length-set words (48 + low) word; front = λ k h. r .front k h ∙ getD-set-other words (48 + low) k word 0 (λ e. omega arith); bits = λ k m. r .bits k m ∙ same k m (ℕ-discrete k low) }
+        both : (after : List ℕ) → Marked (bitAnd left (left - 1)) i (set words (markWord low) word) after → Marked left i words after
+        both after r = record { long = r .long ∙ length-set words (markWord low) word; front = λ k h. r .front k h ∙ getD-set-other words (markWord low) k word 0 (λ e. omega arith); bits = λ k m. r .bits k m ∙ same k m (ℕ-discrete k low) }
 
 -- ---- gathering
 
@@ -81,25 +83,25 @@ any-keep p q (x ∷ xs) = go (p x) refl (any-keep p q xs)
 
 -- constraint i needs a literal of the mask
 abbrev wakes : List ℕ → (mask i : ℕ) → Bool
-wakes words mask i = any (λ (k : ℕ). bit mask k && bit (getD words (48 + k) 0) i) (upFrom 0 16)
+wakes words mask i = any (λ (k : ℕ). bit mask k && bit (getD words (markWord k) 0) i) (upFrom 0 literalCount)
 
 -- what is found, and what the literals that are left wake, is what all wake
 pub record Gathering (words : List ℕ) (all found left : ℕ) : Type 0 where
-  pub small : left < 2 ^ 16
+  pub small : left < 2 ^ literalCount
   pub bits : (i : ℕ) → (bit found i || wakes words left i) ≡ wakes words all i
 
-pub gather-start : (words : List ℕ) {all left : ℕ} → left ≡ all → left < 2 ^ 16 → Gathering words all 0 left
+pub gather-start : (words : List ℕ) {all left : ℕ} → left ≡ all → left < 2 ^ literalCount → Gathering words all 0 left
 gather-start words {all} {left} e h = record { small = h; bits = λ i. rw (bit-zero i, e) }
 
-pub gather-next : {words : List ℕ} {all found left : ℕ} → Gathering words all found left → ¬ (left ≡ 0) → Gathering words all (bitOr found (getD words (48 + trailingZeros 16 left) 0)) (bitAnd left (left - 1))
+pub gather-next : {words : List ℕ} {all found left : ℕ} → Gathering words all found left → ¬ (left ≡ 0) → Gathering words all (bitOr found (getD words (mostConstraints + trailingZeros literalCount left) 0)) (bitAnd left (left - 1))
 gather-next {words} {all} {found} {left} g some = record { small = omega (arith, g .small, less-lt left some); bits = λ i. rw (bit-or found lowest i, or-assoc (bit found i) (bit lowest i) (wakes words (bitAnd left (left - 1)) i), ← next i) (g .bits i) }
   where
     lowest : ℕ
-    lowest = getD words (48 + trailingZeros 16 left) 0
+    lowest = getD words (mostConstraints + trailingZeros literalCount left) 0
 
     next : (i : ℕ) → wakes words left i ≡ (bit lowest i || wakes words (bitAnd left (left - 1)) i)
-    next i = any-keep (bit left) (λ k. bit (getD words (48 + k) 0) i) (upFrom 0 16) ∙ ap (any (λ (k : ℕ). bit (getD words (48 + k) 0) i)) (lowest-keep 16 left (g .small) some)
-        ∙ ap (λ (x : Bool). bit lowest i || x) (sym (any-keep (bit (bitAnd left (left - 1))) (λ k. bit (getD words (48 + k) 0) i) (upFrom 0 16)))
+    next i = any-keep (bit left) (λ k. bit (getD words (markWord k) 0) i) (upFrom 0 literalCount) ∙ ap (any (λ (k : ℕ). bit (getD words (markWord k) 0) i)) (lowest-keep 16 left (g .small) some)
+        ∙ ap (λ (x : Bool). bit lowest i || x) (sym (any-keep (bit (bitAnd left (left - 1))) (λ k. bit (getD words (markWord k) 0) i) (upFrom 0 literalCount)))
 
 pub gather-end : {words : List ℕ} {all found left : ℕ} → Gathering words all found left → left ≡ 0 → (i : ℕ) → bit found i ≡ wakes words all i
 gather-end {words} {all} {found} g e i = sym (or-false (bit found i)) ∙ ap (λ (x : ℕ). bit found i || wakes words x i) (sym e) ∙ g .bits i
@@ -110,14 +112,14 @@ abbrev FilledAt : List ℕ → List ℕ → ℕ → Type 0
 FilledAt bs words k = ((h : ℕ) → bit (getD words k 0) h ≡ any (λ (e : Term). eqb (e .index) h) (entriesOf (constraintOf bs k))) × (getD words k 0 < 2 ^ 64)
 
 pub record Filled (bs words : List ℕ) (i : ℕ) : Type 0 where
-  pub long : length words ≡ 67
+  pub long : length words ≡ wordCount
   pub entries : (k : ℕ) → k < i → FilledAt bs words k
-  pub needed : (k : ℕ) → k < i → (w : ℕ) × NeedsOf (constraintOf bs k) w × ((h : ℕ) → bit w h ≡ true → bit (getD words (48 + h) 0) k ≡ true)
-  pub low : (h k : ℕ) → bit (getD words (48 + h) 0) k ≡ true → k < i
+  pub needed : (k : ℕ) → k < i → (w : ℕ) × NeedsOf (constraintOf bs k) w × ((h : ℕ) → bit w h ≡ true → bit (getD words (markWord h) 0) k ≡ true)
+  pub low : (h k : ℕ) → bit (getD words (markWord h) 0) k ≡ true → k < i
   pub in-problem : i ≤ length (constraintsOf (read bs))
 
-pub fill-start : (bs : List ℕ) → Filled bs (replicate 67 0) 0
-fill-start bs = record { long = refl; entries = λ k l. absurd (omega arith); needed = λ k l. absurd (omega arith); low = λ h k e. clash e (ap (λ (x : ℕ). bit x k) (getD-replicate 67 (48 + h)) ∙ bit-zero k); in-problem = omega arith }
+pub fill-start : (bs : List ℕ) → Filled bs (replicate wordCount 0) 0
+fill-start bs = record { long = refl; entries = λ k l. absurd (omega arith); needed = λ k l. absurd (omega arith); low = λ h k e. clash e (ap (λ (x : ℕ). bit x k) (getD-replicate 67 (markWord h)) ∙ bit-zero k); in-problem = omega arith }
   where
     getD-replicate : (n j : ℕ) → _≡_ {A = ℕ} (getD (replicate n 0) j 0) 0
     getD-replicate zero j = refl
@@ -129,22 +131,22 @@ fill-next {bs} {words} {after} {i = i} {w = w} {literals} f t u b n m = record {
   long = m .long ∙ length-set words i w ∙ f .long;
   entries = λ k l. entry k l (ℕ-discrete k i);
   needed = λ k l. need k l (ℕ-discrete k i);
-  low = λ h k e. lower h k (or-cases (bit (getD words (48 + h) 0) k) (bit literals h && eqb k i) (sym (bits h k) ∙ e));
+  low = λ h k e. lower h k (or-cases (bit (getD words (markWord h) 0) k) (bit literals h && eqb k i) (sym (bits h k) ∙ e));
   in-problem = omega (arith, t .in-problem);
 }
   where
-    bits : (h k : ℕ) → bit (getD after (48 + h) 0) k ≡ (bit (getD words (48 + h) 0) k || (bit literals h && eqb k i))
-    bits h k = m .bits h k ∙ ap (λ (x : ℕ). bit x k || (bit literals h && eqb k i)) (getD-set-other words i (48 + h) w 0 (λ e. omega (arith, t .small)))
+    bits : (h k : ℕ) → bit (getD after (markWord h) 0) k ≡ (bit (getD words (markWord h) 0) k || (bit literals h && eqb k i))
+    bits h k = m .bits h k ∙ ap (λ (x : ℕ). bit x k || (bit literals h && eqb k i)) (getD-set-other words i (markWord h) w 0 (λ e. omega (arith, t .small)))
 
     entry : (k : ℕ) → k < i + 1 → Dec (k ≡ i) → FilledAt bs after k
     entry k l (yes e) = rw (e, m .front i (t .small), getD-set-same words i w 0 (omega (arith, f .long, t .small))) (λ h. b .bits h ∙ sym (entries-by u h), b .small)
     entry k l (no e) = rw (m .front k (omega (arith, t .small)), getD-set-other words i k w 0 e) (f .entries k (omega arith))
 
-    need : (k : ℕ) → k < i + 1 → Dec (k ≡ i) → (x : ℕ) × NeedsOf (constraintOf bs k) x × ((h : ℕ) → bit x h ≡ true → bit (getD after (48 + h) 0) k ≡ true)
-    need k l (yes e) = (literals, rw e n, λ h q. bits h k ∙ or-r (bit (getD words (48 + h) 0) k) (and-i q (eq-eqb k i e)))
+    need : (k : ℕ) → k < i + 1 → Dec (k ≡ i) → (x : ℕ) × NeedsOf (constraintOf bs k) x × ((h : ℕ) → bit x h ≡ true → bit (getD after (markWord h) 0) k ≡ true)
+    need k l (yes e) = (literals, rw e n, λ h q. bits h k ∙ or-r (bit (getD words (markWord h) 0) k) (and-i q (eq-eqb k i e)))
     need k l (no e) = let v = f .needed k (omega arith) in (v .0, v .1, λ h q. bits h k ∙ or-l (bit literals h && eqb k i) (v .2 h q))
 
-    lower : (h k : ℕ) → (bit (getD words (48 + h) 0) k ≡ true) ⊎ ((bit literals h && eqb k i) ≡ true) → k < i + 1
+    lower : (h k : ℕ) → (bit (getD words (markWord h) 0) k ≡ true) ⊎ ((bit literals h && eqb k i) ≡ true) → k < i + 1
     lower h k (inl e) = omega (arith, f .low h k e)
     lower h k (inr e) = omega (arith, eqb-true k i (and-r (bit literals h) (eqb k i) e))
 
@@ -157,7 +159,7 @@ fill-end {bs} {i = i} {t = t} {offsets} {witnesses} f d e =
       entries = λ k l. f .entries k (omega arith) .0;
       small = λ k l. f .entries k (omega arith) .1;
       needing = λ k l j h r q. let v = f .needed k (omega arith) in v .2 h (v .1 .rules j r .needing h q);
-      paired = λ k l j r q. let v = f .needed k (omega arith) in v .2 16 (v .1 .rules j r .paired q);
-      splits = λ k l j v. let w = f .needed k (omega arith) in w .2 18 (w .1 .splits j v);
+      paired = λ k l j r q. let v = f .needed k (omega arith) in v .2 pairMark (v .1 .rules j r .paired q);
+      splits = λ k l j v. let w = f .needed k (omega arith) in w .2 splitMark (w .1 .splits j v);
       low = λ h _ k q. omega (arith, f .low h k q, f .in-problem);
     }

@@ -12,6 +12,7 @@ use lib.Dec.{eqb}
 use lib.Bits.{bitAnd, and-le-l}
 use lib.Count.{trailingZeros}
 use borrow.Author.Tests.{eq-eqb, ne-eqb, eqb-true}
+use Rattle.calculus.specs.Limits.{mostSets, mostTerms}
 use Rattle.calculus.specs.Lists.{upFrom, all, any, bit, Each}
 use Rattle.calculus.specs.Terms.{Term, SetVar, term, setVar}
 use Rattle.calculus.specs.Relations.{applies, propagation}
@@ -37,7 +38,7 @@ use Rattle.constraints.specs.Decoded.{decoded}
 use Rattle.rules.specs.Words.{unsharedOf, restsBy, Shown}
 use Rattle.rules.proofs.RowBits.{known-in}
 use Rattle.rules.proofs.Listed.{covered}
-use Rattle.quiet.specs.Quiet.{Idle, Quiet, WordsOf}
+use Rattle.quiet.specs.Quiet.{Idle, Quiet, WordsOf, splitMark, markWord}
 use Rattle.quiet.proofs.Sayings.{holds, says, chosen-said}
 use Rattle.quiet.proofs.Keeping.{none-found}
 use Rattle.constraints.proofs.Decoding.{in-range}
@@ -63,7 +64,7 @@ entry-holds b h r (e ∷ es) t = go (or-cases (eqb (e .index) h) (any (λ (x : T
     go (inr q) ih = or-r (says b h (holds e) && true) (ih q)
 
 -- a list and its set, of which a word and a row say the entries and the roots
-module _ (n : ℕ) (b : Branch) (few : n ≤ 64) (A : SetVar) (low : A .index < 8) (es : List Term) (lines : List ℕ) (of : rows.RowsOf b lines) (word : ℕ) (small : word < 2 ^ 64) (bits : (h : ℕ) → bit word h ≡ any (λ (e : Term). eqb (e .index) h) es) where
+module _ (n : ℕ) (b : Branch) (few : n ≤ mostTerms) (A : SetVar) (low : A .index < mostSets) (es : List Term) (lines : List ℕ) (of : rows.RowsOf b lines) (word : ℕ) (small : word < 2 ^ 64) (bits : (h : ℕ) → bit word h ≡ any (λ (e : Term). eqb (e .index) h) es) where
   abbrev row : ℕ
   row = getD lines (A .index) 0
 
@@ -86,15 +87,15 @@ module _ (n : ℕ) (b : Branch) (few : n ≤ 64) (A : SetVar) (low : A .index < 
         (keep-each (λ h. h < n) (λ h. eqb (rootAt b h) h) (upFrom 0 n) (up-each (λ h. h < n) 0 n (λ h _ l. omega arith))))
 
   -- rule 19, where each entry is a root in the set
-  module _ (inside : Each (λ (e : Term). e .index < 64) es) (all-roots : bitAnd word (2 ^ 64 - 1 - row) ≡ 0) where
-    entry-known : (e : Term) → e .index < 64 → bit word (e .index) ≡ true → applies (known b) (propagation 19 [] (In e A)) ≡ false
+  module _ (inside : Each (λ (e : Term). e .index < mostTerms) es) (all-roots : bitAnd word (2 ^ 64 - 1 - row) ≡ 0) where
+    entry-known : (e : Term) → e .index < mostTerms → bit word (e .index) ≡ true → applies (known b) (propagation 19 [] (In e A)) ≡ false
     entry-known e l q =
         let s : (eqb (rootAt b (e .index)) (e .index) && rows.known b (A .index) (e .index)) ≡ true = sym (of .says (A .index) (e .index) (omega arith) l) ∙ covered word row small row-small all-roots (e .index) q in
         let r : rootAt b (e .index) ≡ e .index = eqb-true (rootAt b (e .index)) (e .index) (and-l (eqb (rootAt b (e .index)) (e .index)) (rows.known b (A .index) (e .index)) s) in
         let k : known b (In e A) ≡ true = known-in b (e .index) (e .index) r A low ∙ and-r (eqb (rootAt b (e .index)) (e .index)) (rows.known b (A .index) (e .index)) s in
         rw k refl
 
-    entered : (ts : List Term) → Each (λ (e : Term). e .index < 64) ts → ((h : ℕ) → any (λ (e : Term). eqb (e .index) h) ts ≡ true → bit word h ≡ true) → (p : ℕ) → p < length ts → applies (known b) (propagation 19 [] (In (getD ts p (term 0)) A)) ≡ false
+    entered : (ts : List Term) → Each (λ (e : Term). e .index < mostTerms) ts → ((h : ℕ) → any (λ (e : Term). eqb (e .index) h) ts ≡ true → bit word h ≡ true) → (p : ℕ) → p < length ts → applies (known b) (propagation 19 [] (In (getD ts p (term 0)) A)) ≡ false
     entered [] c f p l = absurd (omega arith)
     entered (t ∷ ts) c f zero l = entry-known t (c .0) (f (t .index) (or-l (any (λ (e : Term). eqb (e .index) (t .index)) ts) (eq-eqb (t .index) (t .index) refl)))
     entered (t ∷ ts) c f (suc p) l = entered ts (c .1) (λ h q. f h (or-r (eqb (t .index) h) q)) p (omega arith)
@@ -106,10 +107,10 @@ module _ (n : ℕ) (b : Branch) (few : n ≤ 64) (A : SetVar) (low : A .index < 
 
 -- what one test shows to be at rest is idle
 pub rest-idle : {bs offsets witnesses words : List ℕ} {ps lines : List ℕ} {i : ℕ} (split : Bool) (l : Coded) → Turn bs offsets witnesses i → WordsOf (constraintsOf (read bs)) words → constraintOf bs i ≡ decoded (listed (constraintOf bs i)) l → restsBy ps lines (getD words i 0) split l ≡ true
-    → (n : ℕ) (b : Branch) → n ≤ 64 → Shown b ps lines → Idle split n b (getD (constraintsOf (read bs)) i noConstraint)
+    → (n : ℕ) (b : Branch) → n ≤ mostTerms → Shown b ps lines → Idle split n b (getD (constraintsOf (read bs)) i noConstraint)
 unfolding constraintOf unsharedOf
 rest-idle {bs} {offsets} {words = words} {ps} {lines} {i} split l t w is rest n b few s =
-    subst (λ (x : Constraint). ConstraintIn 64 8 x → ((h : ℕ) → bit word h ≡ any (λ (e : Term). eqb (e .index) h) (entriesOf x)) → Idle split n b x) (sym is) (go l (listed (constraintOf bs i)) rest) (in-range bs i (getD offsets i 0) (t .stands)) (w .entries i (t .in-problem))
+    subst (λ (x : Constraint). ConstraintIn mostTerms mostSets x → ((h : ℕ) → bit word h ≡ any (λ (e : Term). eqb (e .index) h) (entriesOf x)) → Idle split n b x) (sym is) (go l (listed (constraintOf bs i)) rest) (in-range bs i (getD offsets i 0) (t .stands)) (w .entries i (t .in-problem))
   where
     word : ℕ
     word = getD words i 0
@@ -118,7 +119,7 @@ rest-idle {bs} {offsets} {words = words} {ps} {lines} {i} split l t w is rest n 
     root x = root-is b x ∙ ap (λ (p : List ℕ). rootOf p x) (s .parents-are)
 
     -- a list of set A, and its rules 19 and 20
-    list : (y : Bool) (A : CodedSet) (ts : List Term) → A .0 < 8 → Each (λ (e : Term). e .index < 64) ts → ((h : ℕ) → bit word h ≡ any (λ (e : Term). eqb (e .index) h) ts) → eqb (unsharedOf lines word y A) 0 ≡ true → (j : ℕ) → InSpan (spanOf y (exactly (setVar (A .0)) ts)) j → firstAt n b (exactly (setVar (A .0)) ts) j ≡ none
+    list : (y : Bool) (A : CodedSet) (ts : List Term) → A .0 < mostSets → Each (λ (e : Term). e .index < mostTerms) ts → ((h : ℕ) → bit word h ≡ any (λ (e : Term). eqb (e .index) h) ts) → eqb (unsharedOf lines word y A) 0 ≡ true → (j : ℕ) → InSpan (spanOf y (exactly (setVar (A .0)) ts)) j → firstAt n b (exactly (setVar (A .0)) ts) j ≡ none
     list true A ts c d f k j v = let z : j ≡ 20 = omega (arith, v .0, v .1) in subst (λ (m : ℕ). firstAt n b (exactly (setVar (A .0)) ts) m ≡ none) (sym z) (idle-20 n b few (setVar (A .0)) c ts lines (s .rows-are) word (w .small i (t .in-problem)) f (eqb-true _ 0 k))
     list false A ts c d f k j v = let z : j ≡ 19 = omega (arith, v .0, v .1) in subst (λ (m : ℕ). firstAt n b (exactly (setVar (A .0)) ts) m ≡ none) (sym z) (idle-19 n b few (setVar (A .0)) c ts lines (s .rows-are) word (w .small i (t .in-problem)) f d (eqb-true _ 0 k))
 
@@ -126,7 +127,7 @@ rest-idle {bs} {offsets} {words = words} {ps} {lines} {i} split l t w is rest n 
     interval-is true A p q h j v = h j v
     interval-is false A p q h j v = h j v
 
-    go : (m : Coded) (ts : List Term) → restsBy ps lines word split m ≡ true → ConstraintIn 64 8 (decoded ts m) → ((h : ℕ) → bit word h ≡ any (λ (e : Term). eqb (e .index) h) (entriesOf (decoded ts m))) → Idle split n b (decoded ts m)
+    go : (m : Coded) (ts : List Term) → restsBy ps lines word split m ≡ true → ConstraintIn mostTerms mostSets (decoded ts m) → ((h : ℕ) → bit word h ≡ any (λ (e : Term). eqb (e .index) h) (entriesOf (decoded ts m))) → Idle split n b (decoded ts m)
     go (Member x A) ts k c f j v = absurd (false≢true k)
     go (Nonmember x A) ts k c f j v = absurd (false≢true k)
     go (Same x y) ts k c f j v = absurd (false≢true k)
@@ -137,7 +138,7 @@ rest-idle {bs} {offsets} {words = words} {ps} {lines} {i} split l t w is rest n 
     go (Interval A x y) ts k c f j v = interval-is split A (term (x .0)) (term (y .0)) (list split A (entries (term (x .0)) (term (y .0))) (c .0) (c .1) f k) j v
 
 -- its operands are in range, whatever its entries are
-pub unlisted-in : (l : Coded) (ts : List Term) → ConstraintIn 64 8 (decoded ts l) → ConstraintIn 64 8 (decoded [] l)
+pub unlisted-in : (l : Coded) (ts : List Term) → ConstraintIn mostTerms mostSets (decoded ts l) → ConstraintIn mostTerms mostSets (decoded [] l)
 unlisted-in (Member t A) ts c = c
 unlisted-in (Nonmember t A) ts c = c
 unlisted-in (Same t u) ts c = c
@@ -150,7 +151,7 @@ unlisted-in (Interval A x y) ts c = c
 -- ---- masks
 
 -- a search among what is left finds what one among all finds
-pub quiet-within : (split : Bool) (n : ℕ) (b : Branch) {bs ps lines : List ℕ} {mask word : ℕ} → n ≤ 64 → Narrows split bs ps lines mask word → Shown b ps lines → Quiet split n (constraintsOf (read bs)) b mask → Quiet split n (constraintsOf (read bs)) b word
+pub quiet-within : (split : Bool) (n : ℕ) (b : Branch) {bs ps lines : List ℕ} {mask word : ℕ} → n ≤ mostTerms → Narrows split bs ps lines mask word → Shown b ps lines → Quiet split n (constraintsOf (read bs)) b mask → Quiet split n (constraintsOf (read bs)) b word
 quiet-within split n b {bs} {mask = mask} few w s q i l z = go (bit mask i) refl
   where
     go : (x : Bool) → bit mask i ≡ x → Idle split n b (getD (constraintsOf (read bs)) i noConstraint)
@@ -166,7 +167,7 @@ pub record Begins (split : Bool) (bs : List ℕ) (mask kept : ℕ) : Type 0 wher
 pub begins-all : (split : Bool) (bs : List ℕ) {mask kept : ℕ} → mask < 2 ^ 64 → kept ≡ mask → Begins split bs mask kept
 begins-all split bs {mask} h e = rw e (record { within = λ i y. y; idle = λ i l y z. clash y z; small = h })
 
-pub begins-splits : {bs words : List ℕ} {split : Bool} (mask : ℕ) {kept : ℕ} → split ≡ true → mask < 2 ^ 64 → WordsOf (constraintsOf (read bs)) words → kept ≡ bitAnd mask (getD words 66 0) → Begins split bs mask kept
+pub begins-splits : {bs words : List ℕ} {split : Bool} (mask : ℕ) {kept : ℕ} → split ≡ true → mask < 2 ^ 64 → WordsOf (constraintsOf (read bs)) words → kept ≡ bitAnd mask (getD words (markWord splitMark) 0) → Begins split bs mask kept
 begins-splits {bs} {words} mask q h w e = rw (q, e) (record {
   within = λ i y. and-l (bit mask i) (bit last i) (sym (bit-and mask last i) ∙ y);
   idle = λ i l y z n b j v. clash (bit-and mask last i ∙ rw y (w .splits i l j v)) z;
@@ -174,13 +175,13 @@ begins-splits {bs} {words} mask q h w e = rw (q, e) (record {
 })
   where
     last : ℕ
-    last = getD words 66 0
+    last = getD words (markWord splitMark) 0
 
 -- what is narrowed from there on is narrowed from the scope
 pub narrows-from : {split : Bool} {bs ps lines : List ℕ} {among mask word : ℕ} → Begins split bs among mask → Narrows split bs ps lines mask word → Narrows split bs ps lines among word
 narrows-from {split} {bs} {ps} {lines} {among} {mask} {word} g d = record { within = λ i y. g .within i (d .within i y); idle = λ n b few s i l y z. go n b few s i l y z (bit mask i) refl }
   where
-    go : (n : ℕ) (b : Branch) → n ≤ 64 → Shown b ps lines → (i : ℕ) → i < length (constraintsOf (read bs)) → bit among i ≡ true → bit word i ≡ false → (x : Bool) → bit mask i ≡ x → Idle split n b (getD (constraintsOf (read bs)) i noConstraint)
+    go : (n : ℕ) (b : Branch) → n ≤ mostTerms → Shown b ps lines → (i : ℕ) → i < length (constraintsOf (read bs)) → bit among i ≡ true → bit word i ≡ false → (x : Bool) → bit mask i ≡ x → Idle split n b (getD (constraintsOf (read bs)) i noConstraint)
     go n b few s i l y z true e = d .idle n b few s i l e z
     go n b few s i l y z false e = g .idle i l y e n b
 
@@ -206,7 +207,7 @@ module _ {split : Bool} {bs ps lines : List ℕ} {mask kept left : ℕ} (d : Dro
   pub drop-none : {after : ℕ} → after ≡ kept → Dropping split bs ps lines mask after (bitAnd left (left - 1))
   drop-none e = rw e (record { narrows = d .narrows; kept-small = d .kept-small; small = omega (arith, d .small, less-lt left some); low = λ i y. d .low i (and-l (bit left i) (not (eqb i lowest)) (sym (bit-less 64 left i (d .small) some) ∙ y)) })
 
-  pub drop-one : ((n : ℕ) (b : Branch) → n ≤ 64 → Shown b ps lines → Idle split n b (getD (constraintsOf (read bs)) lowest noConstraint)) → {one after : ℕ} → one ≡ 2 ^ lowest → one < 2 ^ 64 → after ≡ bitAnd kept (2 ^ 64 - 1 - one) → Dropping split bs ps lines mask after (bitAnd left (left - 1))
+  pub drop-one : ((n : ℕ) (b : Branch) → n ≤ mostTerms → Shown b ps lines → Idle split n b (getD (constraintsOf (read bs)) lowest noConstraint)) → {one after : ℕ} → one ≡ 2 ^ lowest → one < 2 ^ 64 → after ≡ bitAnd kept (2 ^ 64 - 1 - one) → Dropping split bs ps lines mask after (bitAnd left (left - 1))
   drop-one lowest-idle {one} {after} bit-is one-small p = record {
     narrows = record { within = λ i y. d .narrows .within i (and-l (bit kept i) (not (eqb i lowest)) (sym (without i) ∙ y)); idle = λ n b few s i l y z. go n b few s i l y (sym (without i) ∙ z) (ℕ-discrete i lowest) };
     kept-small = omega (arith, p, d .kept-small, and-le-l kept (2 ^ 64 - 1 - one));
@@ -217,6 +218,6 @@ module _ {split : Bool} {bs ps lines : List ℕ} {mask kept left : ℕ} (d : Dro
       without : (i : ℕ) → bit after i ≡ (bit kept i && not (eqb i lowest))
       without i = ap (λ (m : ℕ). bit m i) p ∙ bit-without 64 kept one i (d .kept-small) one-small ∙ ap (λ (x : Bool). bit kept i && not x) (ap (λ (m : ℕ). bit m i) bit-is ∙ bit-pow lowest i)
 
-      go : (n : ℕ) (b : Branch) → n ≤ 64 → Shown b ps lines → (i : ℕ) → i < length (constraintsOf (read bs)) → bit mask i ≡ true → (bit kept i && not (eqb i lowest)) ≡ false → Dec (i ≡ lowest) → Idle split n b (getD (constraintsOf (read bs)) i noConstraint)
+      go : (n : ℕ) (b : Branch) → n ≤ mostTerms → Shown b ps lines → (i : ℕ) → i < length (constraintsOf (read bs)) → bit mask i ≡ true → (bit kept i && not (eqb i lowest)) ≡ false → Dec (i ≡ lowest) → Idle split n b (getD (constraintsOf (read bs)) i noConstraint)
       go n b few s i l y z (yes q) = subst (λ (k : ℕ). Idle split n b (getD (constraintsOf (read bs)) k noConstraint)) (sym q) (lowest-idle n b few s)
       go n b few s i l y z (no q) = d .narrows .idle n b few s i l y (rw (ne-eqb i lowest q, and-true (bit kept i)) at z)

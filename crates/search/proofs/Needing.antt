@@ -13,6 +13,7 @@ use lib.Pow.{pow-lt}
 use types.Run.{OneOf, miss}
 use denote.Enum.Declared.{tagOf}
 use borrow.Author.Tests.{eq-eqb, eqb-true, eqb-false, ltb-true}
+use Rattle.calculus.specs.Limits.{mostSets, mostTerms}
 use Rattle.calculus.specs.Lists.{imp, all, any, bit}
 use Rattle.calculus.specs.Terms.{Term, SetVar, setVar}
 use Rattle.calculus.specs.Relations.{Rule, Relation, equal, union, disjoint, subset, intersection, unequal, Literal, Operand, operandOf, propagation, rows, negationRow}
@@ -39,7 +40,7 @@ use Rattle.rules.specs.Rows.{HasRow, numbered, numberOf, head, last, laid, part
 use Rattle.rules.proofs.TableTests.{row-of}
 use Rattle.rules.specs.Words.{LowRow, LowSplit}
 use Rattle.rules.proofs.RowBits.{laid-low, parted-low}
-use Rattle.quiet.specs.Quiet.{needs, pairs}
+use Rattle.quiet.specs.Quiet.{needs, pairs, pairMark, splitMark, markCount, restMark}
 use Rattle.search.specs.Marks.{RuleNeeds, NeedsOf}
 
 -- ---- bits of a word
@@ -53,8 +54,8 @@ bit-right a b k e = bit-or a b k ∙ or-r (bit a k) e
 bit-own : (k : ℕ) → bit (2 ^ k) k ≡ true
 bit-own k = bit-pow k k ∙ eq-eqb k k refl
 
-pow-small : (k : ℕ) → k < 17 → 2 ^ k < 2 ^ 17
-pow-small k h = pow-lt {j = 17} h
+pow-small : (k : ℕ) → k < restMark → 2 ^ k < 2 ^ restMark
+pow-small k h = pow-lt {j = restMark} h
 
 -- ---- rows
 
@@ -97,7 +98,7 @@ module _ (k : Relation) (A B C j w : ℕ) where
   firsts = numbered j .premises
 
   -- the premises are the first and the last
-  by-row : rowOf k j ≡ numbered j → bit w (numberOf s (head firsts)) ≡ true → bit w (numberOf s (last firsts)) ≡ true → (ltb 1 (length firsts) ≡ true → bit w 16 ≡ true) → RuleNeeds this j w
+  by-row : rowOf k j ≡ numbered j → bit w (numberOf s (head firsts)) ≡ true → bit w (numberOf s (last firsts)) ≡ true → (ltb 1 (length firsts) ≡ true → bit w pairMark ≡ true) → RuleNeeds this j w
   by-row r x y z = record {
     needing = λ h e. go h (ends (λ (l : Literal). eqb (numberOf s l) h) firsts (ltb-true (length firsts) 3 (few-premises j)) (subst (λ (t : Rule Literal). any (λ (l : Literal). eqb (numberOf s l) h) (t .premises) ≡ true) r e));
     paired = λ e. z (subst (λ (t : Rule Literal). ltb 1 (length (t .premises)) ≡ true) r e);
@@ -109,24 +110,24 @@ module _ (k : Relation) (A B C j w : ℕ) where
 
 -- a word has what propagation rule j of sets needs, whatever relation has the rule
 abbrev pub Premised : (A B C j w : ℕ) → Type 0
-Premised A B C j w = (w < 2 ^ 17) × ((k : Relation) → RuleOf (relation k (setVar A) (setVar B) (setVar C)) j → RuleNeeds (relation k (setVar A) (setVar B) (setVar C)) j w)
+Premised A B C j w = (w < 2 ^ restMark) × ((k : Relation) → RuleOf (relation k (setVar A) (setVar B) (setVar C)) j → RuleNeeds (relation k (setVar A) (setVar B) (setVar C)) j w)
 
 -- a row laid out has literals, and so has a split
-pub row-low : {A B C : ℕ} (j : ℕ) → (A < 8) × (B < 8) × (C < 8) → {x : Row} → x ≡ laid (operandOf A B C) (numbered j) → LowRow x
+pub row-low : {A B C : ℕ} (j : ℕ) → (A < mostSets) × (B < mostSets) × (C < mostSets) → {x : Row} → x ≡ laid (operandOf A B C) (numbered j) → LowRow x
 row-low {A} {B} {C} j low p = subst LowRow (sym p) (laid-low A B C low (numbered j))
 
-pub split-low : {A B C : ℕ} → (A < 8) × (B < 8) × (C < 8) → {x : Split} → x ≡ parted (operandOf A B C) (numbered 12) → LowSplit x
+pub split-low : {A B C : ℕ} → (A < mostSets) × (B < mostSets) × (C < mostSets) → {x : Split} → x ≡ parted (operandOf A B C) (numbered 12) → LowSplit x
 split-low {A} {B} {C} low p = subst LowSplit (sym p) (parted-low A B C low (numbered 12))
 
 -- x is the rule laid out for its sets, and y for three that differ
-module _ {A B C : ℕ} (j : ℕ) (low : (A < 8) × (B < 8) × (C < 8)) {x y : Row} (p : x ≡ laid (operandOf A B C) (numbered j)) (q : y ≡ laid (operandOf 0 1 2) (numbered j)) {u v : ℕ} (m : u ≡ 2 ^ x .0 .0) (n : v ≡ 2 ^ x .1 .0) where
+module _ {A B C : ℕ} (j : ℕ) (low : (A < mostSets) × (B < mostSets) × (C < mostSets)) {x y : Row} (p : x ≡ laid (operandOf A B C) (numbered j)) (q : y ≡ laid (operandOf 0 1 2) (numbered j)) {u v : ℕ} (m : u ≡ 2 ^ x .0 .0) (n : v ≡ 2 ^ x .1 .0) where
   abbrev both : ℕ
   both = bitOr u v
 
-  both-small : both < 2 ^ 17
-  both-small = let l = row-low j low p in or-lt 17 u v (rw m (pow-small (x .0 .0) (omega (arith, l .0)))) (rw n (pow-small (x .1 .0) (omega (arith, l .1))))
+  both-small : both < 2 ^ restMark
+  both-small = let l = row-low j low p in or-lt restMark u v (rw m (pow-small (x .0 .0) (omega (arith, l .0)))) (rw n (pow-small (x .1 .0) (omega (arith, l .1))))
 
-  by-premises : (w : ℕ) → ((h : ℕ) → bit both h ≡ true → bit w h ≡ true) → (¬ (y .0 .0 ≡ y .1 .0) → bit w 16 ≡ true) → (k : Relation) → RuleOf (relation k (setVar A) (setVar B) (setVar C)) j → RuleNeeds (relation k (setVar A) (setVar B) (setVar C)) j w
+  by-premises : (w : ℕ) → ((h : ℕ) → bit both h ≡ true → bit w h ≡ true) → (¬ (y .0 .0 ≡ y .1 .0) → bit w pairMark ≡ true) → (k : Relation) → RuleOf (relation k (setVar A) (setVar B) (setVar C)) j → RuleNeeds (relation k (setVar A) (setVar B) (setVar C)) j w
   by-premises w f z k r =
       by-row k A B C j w (row-of k (setVar A) (setVar B) (setVar C) j r .is)
       (subst (λ (t : Row). bit w (t .0 .0) ≡ true) p (f (x .0 .0) (bit-left u v (x .0 .0) (rw m (bit-own (x .0 .0))))))
@@ -136,8 +137,8 @@ module _ {A B C : ℕ} (j : ℕ) (low : (A < 8) × (B < 8) × (C < 8)) {x y : Ro
   pub one-premise : y .0 .0 ≡ y .1 .0 → Premised A B C j both
   one-premise e = (both-small, by-premises both (λ h g. g) (λ z. absurd (z e)))
 
-  pub two-premises : {t : ℕ} → t ≡ 2 ^ 16 → Premised A B C j (bitOr both t)
-  two-premises {t} e = (or-lt 17 both t both-small (rw e (omega arith)), by-premises (bitOr both t) (bit-left both t) (λ _. bit-right both t 16 (rw e (bit-own 16))))
+  pub two-premises : {t : ℕ} → t ≡ 2 ^ pairMark → Premised A B C j (bitOr both t)
+  two-premises {t} e = (or-lt restMark both t both-small (rw e (omega arith)), by-premises (bitOr both t) (bit-left both t) (λ _. bit-right both t pairMark (rw e (bit-own pairMark))))
 
 -- rule 12 is the split, and no propagation rule
 rule-12 : (k : Relation) (A B C : SetVar) (j : ℕ) → (InSpan (propagationSpan (relation k A B C)) j → ¬ (j ≡ 12)) × (InSpan (splitSpan (relation k A B C)) j → j ≡ 12)
@@ -150,27 +151,27 @@ rule-12 intersection A B C j = (λ s e. omega (arith, s .0, s .1), λ s. omega (
 -- ---- rules of a constraint
 
 wider : {l : Constraint} {j w : ℕ} → RuleNeeds l j w → (v : ℕ) → ((k : ℕ) → bit w k ≡ true → bit v k ≡ true) → RuleNeeds l j v
-wider r v f = record { needing = λ k e. f k (r .needing k e); paired = λ e. f 16 (r .paired e) }
+wider r v f = record { needing = λ k e. f k (r .needing k e); paired = λ e. f pairMark (r .paired e) }
 
 -- a word has what the propagation rules before rule j need
 pub record Before (l : Constraint) (j word : ℕ) : Type 0 where
   pub begun : propagationSpan l .0 ≤ j
   pub rules : (m : ℕ) → InSpan (propagationSpan l) m → m < j → RuleNeeds l m word
-  pub small : word < 2 ^ 17
+  pub small : word < 2 ^ restMark
 
 -- a list or an interval of set A
-list-needs : {l : Constraint} (A : ℕ) → A < 8 → ((j k : ℕ) → needs l j k ≡ (eqb j 20 && eqb A k)) → ((j : ℕ) → pairs l j ≡ false) → NeedsOf l (bitOr (bitOr (2 ^ A) (2 ^ 17)) (2 ^ 18))
+list-needs : {l : Constraint} (A : ℕ) → A < mostSets → ((j k : ℕ) → needs l j k ≡ (eqb j 20 && eqb A k)) → ((j : ℕ) → pairs l j ≡ false) → NeedsOf l (bitOr (bitOr (2 ^ A) (2 ^ restMark)) (2 ^ splitMark))
 list-needs A h f g = record {
-  rules = λ j r. record { needing = λ k z. subst (λ (m : ℕ). bit (bitOr both (2 ^ 18)) m ≡ true) (eqb-true A k (and-r (eqb j 20) (eqb A k) (sym (f j k) ∙ z))) (bit-left both (2 ^ 18) A (bit-left (2 ^ A) (2 ^ 17) A (bit-own A))); paired = λ z. clash z (g j) };
-  splits = λ j v. bit-right both (2 ^ 18) 18 (bit-own 18);
-  small = or-lt 19 both (2 ^ 18) (or-lt 19 (2 ^ A) (2 ^ 17) (omega (arith, pow-small A (omega arith))) (omega arith)) (omega arith);
+  rules = λ j r. record { needing = λ k z. subst (λ (m : ℕ). bit (bitOr both (2 ^ splitMark)) m ≡ true) (eqb-true A k (and-r (eqb j 20) (eqb A k) (sym (f j k) ∙ z))) (bit-left both (2 ^ splitMark) A (bit-left (2 ^ A) (2 ^ restMark) A (bit-own A))); paired = λ z. clash z (g j) };
+  splits = λ j v. bit-right both (2 ^ splitMark) splitMark (bit-own splitMark);
+  small = or-lt markCount both (2 ^ splitMark) (or-lt markCount (2 ^ A) (2 ^ restMark) (omega (arith, pow-small A (omega arith))) (omega arith)) (omega arith);
 }
   where
     both : ℕ
-    both = bitOr (2 ^ A) (2 ^ 17)
+    both = bitOr (2 ^ A) (2 ^ restMark)
 
 -- a constraint whose rules need no literal: without a split, and with one
-nothing-needed : {l : Constraint} (w : ℕ) → w < 2 ^ 19 → ((j k : ℕ) → needs l j k ≡ false) → ((j : ℕ) → pairs l j ≡ false) → ((j : ℕ) → InSpan (splitSpan l) j → bit w 18 ≡ true) → NeedsOf l w
+nothing-needed : {l : Constraint} (w : ℕ) → w < 2 ^ markCount → ((j k : ℕ) → needs l j k ≡ false) → ((j : ℕ) → pairs l j ≡ false) → ((j : ℕ) → InSpan (splitSpan l) j → bit w splitMark ≡ true) → NeedsOf l w
 nothing-needed w h f g s = record { rules = λ j r. record { needing = λ k z. clash z (f j k); paired = λ z. clash z (g j) }; splits = s; small = h }
 
 unsplit : {P : Type 0} (j : ℕ) → InSpan (0, 0) j → P
@@ -184,19 +185,19 @@ module _ {bs : List ℕ} {i at : ℕ} (l : Coded) (d : Stands bs i at × (constr
   matched : {m : Coded} → l ≡ m → own ≡ decoded (listed own) m
   matched e = d .1 ∙ ap (decoded (listed own)) e
 
-  pub range : {m : Coded} → l ≡ m → ConstraintIn 64 8 (decoded (listed own) m)
-  range e = subst (ConstraintIn 64 8) (matched e) (in-range bs i at (d .0))
+  pub range : {m : Coded} → l ≡ m → ConstraintIn mostTerms mostSets (decoded (listed own) m)
+  range e = subst (ConstraintIn mostTerms mostSets) (matched e) (in-range bs i at (d .0))
 
-  pub different-needs : {t u : CodedTerm} → l ≡ Different t u → {v w : ℕ} → v ≡ 2 ^ 16 → w ≡ 2 ^ 17 → NeedsOf own (bitOr v w)
-  different-needs e p q = rw (matched e, p, q) (record { rules = λ j r. record { needing = λ k z. absurd (false≢true z); paired = λ z. bit-left (2 ^ 16) (2 ^ 17) 16 (bit-own 16) }; splits = unsplit; small = or-lt 19 (2 ^ 16) (2 ^ 17) (omega arith) (omega arith) })
+  pub different-needs : {t u : CodedTerm} → l ≡ Different t u → {v w : ℕ} → v ≡ 2 ^ pairMark → w ≡ 2 ^ restMark → NeedsOf own (bitOr v w)
+  different-needs e p q = rw (matched e, p, q) (record { rules = λ j r. record { needing = λ k z. absurd (false≢true z); paired = λ z. bit-left (2 ^ pairMark) (2 ^ restMark) 16 (bit-own pairMark) }; splits = unsplit; small = or-lt markCount (2 ^ pairMark) (2 ^ restMark) (omega arith) (omega arith) })
 
-  pub negated-needs : {k : CodedNegation} {A B C : CodedSet} {t : CodedTerm} → l ≡ Negated k A B C t → {w : ℕ} → w ≡ 2 ^ 18 → NeedsOf own w
-  negated-needs e q = rw (matched e, q) (nothing-needed (2 ^ 18) (omega arith) (λ j k. refl) (λ j. refl) (λ j v. bit-own 18))
+  pub negated-needs : {k : CodedNegation} {A B C : CodedSet} {t : CodedTerm} → l ≡ Negated k A B C t → {w : ℕ} → w ≡ 2 ^ splitMark → NeedsOf own w
+  negated-needs e q = rw (matched e, q) (nothing-needed (2 ^ splitMark) (omega arith) (λ j k. refl) (λ j. refl) (λ j v. bit-own splitMark))
 
-  pub exactly-needs : {A : CodedSet} → l ≡ Exactly A → {v w x : ℕ} → v ≡ 2 ^ A .0 → w ≡ 2 ^ 17 → x ≡ 2 ^ 18 → NeedsOf own (bitOr (bitOr v w) x)
+  pub exactly-needs : {A : CodedSet} → l ≡ Exactly A → {v w x : ℕ} → v ≡ 2 ^ A .0 → w ≡ 2 ^ restMark → x ≡ 2 ^ splitMark → NeedsOf own (bitOr (bitOr v w) x)
   exactly-needs {A} e p q r = rw (matched e, p, q, r) (list-needs (A .0) (range e .0) (λ j k. refl) (λ j. refl))
 
-  pub interval-needs : {A : CodedSet} {t u : CodedTerm} → l ≡ Interval A t u → {v w x : ℕ} → v ≡ 2 ^ A .0 → w ≡ 2 ^ 17 → x ≡ 2 ^ 18 → NeedsOf own (bitOr (bitOr v w) x)
+  pub interval-needs : {A : CodedSet} {t u : CodedTerm} → l ≡ Interval A t u → {v w x : ℕ} → v ≡ 2 ^ A .0 → w ≡ 2 ^ restMark → x ≡ 2 ^ splitMark → NeedsOf own (bitOr (bitOr v w) x)
   interval-needs {A} e p q r = rw (matched e, p, q, r) (list-needs (A .0) (range e .0) (λ j k. refl) (λ j. refl))
 
   module _ {k : CodedRelation} {A B C : CodedSet} (e : l ≡ Related k A B C) where
@@ -207,7 +208,7 @@ module _ {bs : List ℕ} {i at : ℕ} (l : Coded) (d : Stands bs i at × (constr
     spans split h = h related (sym (kind-here bs i at (d .0) ∙ ap kindOf (matched e)))
 
     -- what `premises` is asked for
-    pub premises-asked : {first end j word : ℕ} → Spanned false (getD bs at 0) first end → Before own j word → j < end → HasRow j A B × (C .0 < 8)
+    pub premises-asked : {first end j word : ℕ} → Spanned false (getD bs at 0) first end → Before own j word → j < end → HasRow j A B × (C .0 < mostSets)
     premises-asked {first} {end} {j} h f b =
         let v : InSpan (propagationSpan related) j = (rw (matched e) at (f .begun), omega (arith, spans false h .1)) in
         let t = row-of (relationOf k) (setVar (A .0)) (setVar (B .0)) (setVar (C .0)) j (inl v) in
@@ -217,7 +218,7 @@ module _ {bs : List ℕ} {i at : ℕ} (l : Coded) (d : Stands bs i at × (constr
     needs-start h = let q = spans false h in rw (matched e) (record { begun = omega (arith, q .0); rules = λ m v g. absurd (omega (arith, q .0, v .0)); small = omega arith })
 
     pub needs-next : {j word w : ℕ} → Before own j word → Premised (A .0) (B .0) (C .0) j w → Before own (j + 1) (bitOr word w)
-    needs-next {j} {word} {w} f g = rw (matched e) (record { begun = omega (arith, p .begun); rules = λ m v h. go m v h (ℕ-discrete m j); small = or-lt 17 word w (f .small) (g .0) })
+    needs-next {j} {word} {w} f g = rw (matched e) (record { begun = omega (arith, p .begun); rules = λ m v h. go m v h (ℕ-discrete m j); small = or-lt restMark word w (f .small) (g .0) })
       where
         p : Before related j word
         p = rw (matched e) at f
@@ -231,7 +232,7 @@ module _ {bs : List ℕ} {i at : ℕ} (l : Coded) (d : Stands bs i at × (constr
       past : Before related j word
       past = rw (matched e) at f
 
-      abbrev needs-with : (w : ℕ) → w < 2 ^ 19 → ((x : ℕ) → bit word x ≡ true → bit w x ≡ true) → ((m : ℕ) → InSpan (splitSpan related) m → RuleNeeds related m w × (bit w 18 ≡ true)) → NeedsOf own w
+      abbrev needs-with : (w : ℕ) → w < 2 ^ markCount → ((x : ℕ) → bit word x ≡ true → bit w x ≡ true) → ((m : ℕ) → InSpan (splitSpan related) m → RuleNeeds related m w × (bit w splitMark ≡ true)) → NeedsOf own w
       needs-with w s u z = rw (matched e) (record { rules = λ m r. go m r; splits = λ m v. z m v .1; small = s })
         where
           go : (m : ℕ) → RuleOf related m → RuleNeeds related m w
@@ -241,8 +242,8 @@ module _ {bs : List ℕ} {i at : ℕ} (l : Coded) (d : Stands bs i at × (constr
       pub no-split : to ≤ from → NeedsOf own word
       no-split n = let q = spans true g in needs-with word (omega (arith, f .small)) (λ x y. y) (λ m v. absurd (omega (arith, q .0, q .1, v .0, v .1)))
 
-      pub with-split : {x : Split} → x ≡ parted (operandOf (A .0) (B .0) (C .0)) (numbered 12) → {v w : ℕ} → v ≡ 2 ^ x .0 .0 → w ≡ 2 ^ 18 → NeedsOf own (bitOr (bitOr word v) w)
-      with-split {x} p {v} {w} q o = needs-with all (or-lt 19 (bitOr word v) w (or-lt 19 word v (omega (arith, f .small)) (rw c (omega (arith, pow-small (C .0) (omega (arith, range e .2)))))) (rw o (omega arith))) (λ y z. bit-left (bitOr word v) w y (bit-left word v y z)) (λ m s. (there m s, bit-right (bitOr word v) w 18 (rw o (bit-own 18))))
+      pub with-split : {x : Split} → x ≡ parted (operandOf (A .0) (B .0) (C .0)) (numbered 12) → {v w : ℕ} → v ≡ 2 ^ x .0 .0 → w ≡ 2 ^ splitMark → NeedsOf own (bitOr (bitOr word v) w)
+      with-split {x} p {v} {w} q o = needs-with all (or-lt markCount (bitOr word v) w (or-lt markCount word v (omega (arith, f .small)) (rw c (omega (arith, pow-small (C .0) (omega (arith, range e .2)))))) (rw o (omega arith))) (λ y z. bit-left (bitOr word v) w y (bit-left word v y z)) (λ m s. (there m s, bit-right (bitOr word v) w 18 (rw o (bit-own splitMark))))
         where
           all : ℕ
           all = bitOr (bitOr word v) w

@@ -5,6 +5,7 @@ use Prim.Native.Nat.{ℕ, _<_, _≤_}
 use native.Mathlib.Omega.{arith}
 use lib.ListN.{length, getD}
 use lib.Dec.{eqb}
+use Rattle.calculus.specs.Limits.{mostTerms}
 use Rattle.calculus.specs.Lists.{any}
 use Rattle.calculus.specs.Terms.{Term, term}
 use Rattle.calculus.specs.Meaning as calculus
@@ -34,8 +35,8 @@ turn-of {bs} {t} {offsets} {witnesses} {i} d l =
       witnesses-long = d .sized-witnesses;
     }
 
--- there are at most 64 terms
-pub few-terms : {bs : List ℕ} {t : Totals} {offsets witnesses : List ℕ} → Tabled bs t offsets witnesses → t .terms ≤ 64
+-- there are at most mostTerms terms
+pub few-terms : {bs : List ℕ} {t : Totals} {offsets witnesses : List ℕ} → Tabled bs t offsets witnesses → t .terms ≤ mostTerms
 few-terms {bs} {t} {offsets} {witnesses} d = opened-sizes bs (tableBy t offsets witnesses) (d .opened) .2
 
 -- its entries are those of the list that it is unpacked with

@@ -6,6 +6,7 @@ use mathlib.Core.List.{List, map}
 use Prim.Native.Nat.{ℕ, _<_}
 use lib.ListN.{length, getD}
 use lib.Dec.{eqb}
+use Rattle.calculus.specs.Limits.{mostTerms}
 use Rattle.calculus.specs.Lists.{upFrom, first, bit}
 use Rattle.calculus.specs.Terms.{term}
 use Rattle.calculus.specs.Relations.{applies}
@@ -24,7 +25,7 @@ use Rattle.search.specs.declared.Found.{Found}
 -- What is prepared once a run: the table, the numbers 0 to 63, and the words by constraint and by literal.
 pub record Prepared (bs numbers : List ℕ) (totals : Totals) (offsets witnesses words : List ℕ) : Type 0 where
   pub tabled : Tabled bs totals offsets witnesses
-  pub numbers-are : numbers ≡ upFrom 0 64
+  pub numbers-are : numbers ≡ upFrom 0 mostTerms
   pub words-are : WordsOf (constraintsOf (read bs)) words
 
 -- A place by numbers. The position is an entry's number for rule 19, and the root for any other rule.
@@ -46,7 +47,7 @@ pub record Within (split : Bool) (n : ℕ) (ls : List Constraint) (b : Branch) (
   pub in-problem : p .constraint < length ls
   pub of-rule : InSpan (spanOf split (getD ls (p .constraint) noConstraint)) (p .rule)
   pub of-entry : p .rule ≡ 19 → p .position < length (entriesOf (getD ls (p .constraint) noConstraint))
-  pub of-root : ¬ (p .rule ≡ 19) → (p .position < 64) × (moveAt b (getD ls (p .constraint) noConstraint) (p .rule) (p .position) .0 ≡ term (p .position))
+  pub of-root : ¬ (p .rule ≡ 19) → (p .position < mostTerms) × (moveAt b (getD ls (p .constraint) noConstraint) (p .rule) (p .position) .0 ≡ term (p .position))
 
 -- The first candidate that applies: of the propagation rules, or of the splits.
 unfoldable pub firstPlace : Bool → ℕ → List Constraint → Branch → Option Candidate

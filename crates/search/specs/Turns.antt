@@ -4,6 +4,7 @@ use mathlib.Core.Bool.{Bool, true, false}
 use mathlib.Core.List.{List}
 use Prim.Native.Nat.{ℕ, _+_, _<_, _≤_}
 use lib.ListN.{length, getD}
+use Rattle.calculus.specs.Limits.{mostBytes, mostConstraints, mostTerms}
 use Rattle.calculus.specs.Lists.{bit}
 use Rattle.calculus.specs.Terms.{term}
 use Rattle.calculus.specs.Branch.{Branch}
@@ -14,14 +15,14 @@ use Rattle.quiet.specs.Quiet.{Idle}
 
 -- The turn of constraint i: it stands at its offset, and what is read of it is there.
 pub record Turn (bs offsets witnesses : List ℕ) (i : ℕ) : Type 0 where
-  pub small : i < 48
+  pub small : i < mostConstraints
   pub stands : Stands bs i (getD offsets i 0)
   pub witness : term (getD witnesses i 0) ≡ witnessOf bs i
   pub in-problem : i < length (constraintsOf (read bs))
   pub in-bytes : getD offsets i 0 + 2 < length bs
-  pub short : length bs ≤ 4096
-  pub offsets-long : length offsets ≡ 48
-  pub witnesses-long : length witnesses ≡ 48
+  pub short : length bs ≤ mostBytes
+  pub offsets-long : length offsets ≡ mostConstraints
+  pub witnesses-long : length witnesses ≡ mostConstraints
 
 -- Each constraint of a mask has its turn.
 abbrev pub Turns : (bs offsets witnesses : List ℕ) → ℕ → Type 0
@@ -30,4 +31,4 @@ Turns bs offsets witnesses mask = (i : ℕ) → bit mask i ≡ true → Turn bs 
 -- A mask is narrowed to a word: each constraint that is left out is idle in every branch with these parents and rows.
 pub record Narrows (split : Bool) (bs parents rows : List ℕ) (mask word : ℕ) : Type 0 where
   pub within : (i : ℕ) → bit word i ≡ true → bit mask i ≡ true
-  pub idle : (n : ℕ) (b : Branch) → n ≤ 64 → Shown b parents rows → (i : ℕ) → i < length (constraintsOf (read bs)) → bit mask i ≡ true → bit word i ≡ false → Idle split n b (getD (constraintsOf (read bs)) i noConstraint)
+  pub idle : (n : ℕ) (b : Branch) → n ≤ mostTerms → Shown b parents rows → (i : ℕ) → i < length (constraintsOf (read bs)) → bit mask i ≡ true → bit word i ≡ false → Idle split n b (getD (constraintsOf (read bs)) i noConstraint)

@@ -4,6 +4,7 @@ use mathlib.Core.List.{List}
 use Prim.Native.Nat.{ℕ, _<_, _≤_}
 use native.Mathlib.Omega.{arith}
 use lib.ListN.{length, getD}
+use Rattle.calculus.specs.Limits.{mostConstraints, mostTerms}
 use Rattle.calculus.specs.Lists.{Each}
 use Rattle.calculus.specs.Terms.{Term, term}
 use Rattle.calculus.specs.Invariants.{ConstraintIn}
@@ -32,14 +33,14 @@ module _ (bs : List ℕ) (tab : Table) (o : Opened bs tab) where
   pub among : Among (tab .terms) (constants bs tab)
   among = terms-each (λ (t : Term). t .index < tab .terms) 0 (tab .constants) (λ t l h. omega (arith, constants-few))
 
-  pub terms-few : tab .terms ≤ 64
+  pub terms-few : tab .terms ≤ mostTerms
   terms-few = opened-sizes bs tab o .2
 
   pub place-there : (i : ℕ) → i < length (constraints bs tab) → i < tab .constraints
   place-there i l = omega (arith, constraint-count bs tab o)
 
   -- a constraint of the problem stands where the table says, and so does its witness
-  pub stands : (i : ℕ) → i < length (constraints bs tab) → (i < 48) × Stands bs i (getD (tab .offsets) i 0) × (term (getD (tab .witnesses) i 0) ≡ witnessOf bs i)
+  pub stands : (i : ℕ) → i < length (constraints bs tab) → (i < mostConstraints) × Stands bs i (getD (tab .offsets) i 0) × (term (getD (tab .witnesses) i 0) ≡ witnessOf bs i)
   stands i l = stands-there bs tab i o (place-there i l)
 
 -- a branch of the run, as it is lent to a search

@@ -6,6 +6,7 @@ use Prim.Native.Nat.{ℕ, _+_, _*_, _<_, _≤_}
 use native.Mathlib.Omega.{arith}
 use native.Mathlib.Numerals.{add-one}
 use lib.ListN.{length}
+use Rattle.calculus.specs.Limits.{mostSteps}
 use Rattle.problem.specs.declared.Table.{Table}
 use Rattle.branch.specs.declared.Branch.{Branch}
 use Rattle.branch.specs.declared.Asserted.{Asserted}
@@ -24,7 +25,7 @@ use Rattle.solver.proofs.Taking.{Taking, Made, stepped, child-less, clo
 pub record Going (budget : ℕ) (c : Counts) (trace : List ℕ) : Type 0 where
   pub on : c .stop ≡ 0
   pub within : c .steps ≤ budget
-  pub few : budget ≤ 10000
+  pub few : budget ≤ mostSteps
   pub traced : 4 * budget ≤ length trace
 
 -- steps lead from a branch, its counts and its trace to others

@@ -8,6 +8,7 @@ use Prim.Native.Nat.{ℕ, _<_, _≤_}
 use native.Mathlib.Omega.{arith}
 use lib.ListN.{length, getD, length-map}
 use borrow.Author.Tests.{eq-eqb, ne-eqb}
+use Rattle.calculus.specs.Limits.{mostSets, mostTerms}
 use Rattle.calculus.specs.Lists.{upFrom, picked, Each, Some, here, there}
 use Rattle.calculus.specs.Terms.{term}
 use Rattle.calculus.specs.Relations.{applies}
@@ -95,12 +96,12 @@ module _ {bs : List ℕ} {tab : Table} {split : Bool} {b : Branch} {r : Found} {
   entry-listed : r .rule ≡ 19 → q < length es
   entry-listed e = omega (arith, entry-there e, ap length (s .unpacked .handled .entries-are), length-map es term)
 
-  low : r .root .0 < 64
+  low : r .root .0 < mostTerms
   low = omega (arith, s .located .low, terms-few bs tab (s .opened))
 
   -- its terms, and the root concerned, are the problem's
-  pub in-terms : ConstraintIn (tab .terms) 8 this
-  in-terms = subst (ConstraintIn (tab .terms) 8) (s .unpacked .is) (constraint-in bs tab (r .number) (s .opened) (place-there bs tab (s .opened) (r .number) (s .located .within .in-problem)) (tab .terms) 8 (omega arith) (opened-sizes bs tab (s .opened) .1))
+  pub in-terms : ConstraintIn (tab .terms) mostSets this
+  in-terms = subst (ConstraintIn (tab .terms) mostSets) (s .unpacked .is) (constraint-in bs tab (r .number) (s .opened) (place-there bs tab (s .opened) (r .number) (s .located .within .in-problem)) (tab .terms) 8 (omega arith) (opened-sizes bs tab (s .opened) .1))
 
   pub low-act : (a : Act) → Low (r .constraint) es (r .root .0) a → Under (tab .terms) a
   low-act a l = l (tab .terms) in-terms (s .located .low)
@@ -138,7 +139,7 @@ module _ {bs : List ℕ} {tab : Table} {split : Bool} {b : Branch} {r : Found} {
       pub child-sound : Sound (constants bs tab) (t .branch)
       child-sound = record {
         good = child-fit (constants bs tab) (held b) this (r .rule) q k (held (t .branch)) (s .sound .good) (s .unpacked .handled .in-range) ruled entry-there
-            (λ n. subst (λ (x : Constraint). (q < 64) × (moveAt (held b) x (r .rule) q .0 ≡ term q)) here-is (s .located .within .of-root n) .0) (m .there) given;
+            (λ n. subst (λ (x : Constraint). (q < mostTerms) × (moveAt (held b) x (r .rule) q .0 ≡ term q)) here-is (s .located .within .of-root n) .0) (m .there) given;
         rowed = m .rowed;
       }
 

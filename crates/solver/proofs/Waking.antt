@@ -9,6 +9,7 @@ use lib.ListN.{length, getD}
 use lib.Dec.{ltb}
 use lib.Bits.{bitOr}
 use borrow.Author.Tests.{lt-ltb, ltb-true}
+use Rattle.calculus.specs.Limits.{mostSets}
 use Rattle.calculus.specs.Lists.{upFrom, any, bit}
 use Rattle.calculus.specs.Terms.{Term}
 use Rattle.calculus.specs.Meaning.{Constraint}
@@ -21,10 +22,10 @@ use Rattle.bits.proofs.Bits.{bit-or, bit-ones}
 use Rattle.branch.specs.declared.Branch.{Branch}
 use Rattle.branch.specs.declared.Asserted.{Asserted}
 use Rattle.branch.specs.Held.{held, Sound}
-use Rattle.branch.specs.Rows.{literals}
+use Rattle.branch.specs.Rows.{literals, literalCount}
 use Rattle.branch.proofs.Roots.{root-is}
 use Rattle.constraints.proofs.Decoding.{constraint-in}
-use Rattle.quiet.specs.Quiet.{Quiet}
+use Rattle.quiet.specs.Quiet.{Quiet, markWord, pairMark}
 use Rattle.quiet.proofs.Waking.{Watched, quiet-noted, quiet-merged}
 use Rattle.search.specs.declared.Found.{Found}
 use Rattle.search.specs.First.{Prepared, Finds}
@@ -42,7 +43,7 @@ watched {bs} {t = t} {offsets} {witnesses} p =
     let tab : Table = tableBy t offsets witnesses in
     record {
       words-are = p .words-are;
-      in-range = λ i l. constraint-in bs tab i o (omega (arith, constraint-count bs tab o)) (t .terms) 8 (omega arith) (opened-sizes bs tab o .1);
+      in-range = λ i l. constraint-in bs tab i o (omega (arith, constraint-count bs tab o)) (t .terms) mostSets (omega arith) (opened-sizes bs tab o .1);
       few = opened-sizes bs tab o .2;
     }
 
@@ -88,12 +89,12 @@ each-up f P k (suc n) e g = go (f k) refl (λ z. each-up f P (suc k) n (ap (λ (
 module _ {n : ℕ} {ls : List Constraint} {words : List ℕ} (d : Watched n ls words) where
   -- what it wakes is there
   woken-low : (a : Act) (w : ℕ) → Wakes words a w → (i : ℕ) → bit w i ≡ true → i < length ls
-  woken-low (Note h x y) w k i e = each-up (λ (m : ℕ). bit (literals x y) m && bit (getD words (48 + m) 0) i) (i < length ls) 0 16 (sym (k i) ∙ e) (λ m _ l z. d .words-are .low m (omega arith) i (and-r (bit (literals x y) m) (bit (getD words (48 + m) 0) i) z))
-  woken-low (Merge lo hi) w k i e = d .words-are .low 16 (omega arith) i (sym (k i) ∙ e)
+  woken-low (Note h x y) w k i e = each-up (λ (m : ℕ). bit (literals x y) m && bit (getD words (markWord m) 0) i) (i < length ls) 0 literalCount (sym (k i) ∙ e) (λ m _ l z. d .words-are .low m (omega arith) i (and-r (bit (literals x y) m) (bit (getD words (markWord m) 0) i) z))
+  woken-low (Merge lo hi) w k i e = d .words-are .low pairMark (omega arith) i (sym (k i) ∙ e)
   woken-low Close w k i e = absurd (false≢true (sym (k i) ∙ e))
 
   act-quiet : (split : Bool) (mask w : ℕ) {b : Branch} {cs : List Term} → Sound cs b → (a : Act) → Rooted (b .parents) a → Under n a → Wakes words a w → Quiet split n ls (held b) mask → Quiet split n ls (held (performed b a .branch)) (bitOr mask w)
-  act-quiet split mask w s (Note h x y) r u k q = quiet-noted d split mask w s x y (r .0) (root-is _ _ ∙ r .1) (λ m i l e z. k i ∙ some-up (λ (j : ℕ). bit (literals x y) j && bit (getD words (48 + j) 0) i) 0 m 16 (omega arith) (omega arith) (ap (λ (t : Bool). t && bit (getD words (48 + m) 0) i) e ∙ z)) q
+  act-quiet split mask w s (Note h x y) r u k q = quiet-noted d split mask w s x y (r .0) (root-is _ _ ∙ r .1) (λ m i l e z. k i ∙ some-up (λ (j : ℕ). bit (literals x y) j && bit (getD words (markWord j) 0) i) 0 m 16 (omega arith) (omega arith) (ap (λ (t : Bool). t && bit (getD words (markWord m) 0) i) e ∙ z)) q
   act-quiet split mask w s (Merge lo hi) r u k q = quiet-merged d split mask w s (r .0) u (root-is _ _ ∙ r .2) (root-is _ _ ∙ r .3) (λ i e. k i ∙ e) q
   act-quiet split mask w s Close r u k q = λ i l e. q i l (wider-l mask w i e)
 

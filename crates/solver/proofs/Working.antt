@@ -5,6 +5,7 @@ use mathlib.Core.List.{List, [], _∷_, map, append-nil}
 use Prim.Native.Nat.{ℕ, zero, suc, _-_, _<_, _≤_}
 use native.Mathlib.Omega.{arith}
 use borrow.Author.Tests.{eq-eqb}
+use Rattle.calculus.specs.Limits.{mostTerms}
 use Rattle.calculus.specs.Lists.{upFrom, gather, picked}
 use Rattle.calculus.specs.Meaning.{Constraint}
 use Rattle.calculus.specs.Branch as calculus
@@ -33,7 +34,7 @@ module _ (bs : List ℕ) (tab : Table) (o : Opened bs tab) (budget : ℕ) (b : B
   nextIs x = next (tab .terms) (constants bs tab) (constraints bs tab) this ≡ x
 
   pub fit : WellFormed (tab .terms) (constants bs tab) this
-  fit = restrict-fit (tab .terms) 64 (constants bs tab) (held b) good (terms-few bs tab o) (among bs tab o)
+  fit = restrict-fit (tab .terms) mostTerms (constants bs tab) (held b) good (terms-few bs tab o) (among bs tab o)
 
   -- where a step is taken something remains
   pub some-left : (r : List ℕ) (cs : List calculus.Branch) → nextIs (step r cs) → remaining bs tab b ≤ 0 → ⊥

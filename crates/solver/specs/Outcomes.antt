@@ -17,7 +17,7 @@ use Rattle.problem.specs.declared.Table.{Table}
 use Rattle.problem.specs.Table.{constraintsOf, noConstraint}
 use Rattle.branch.specs.declared.Branch.{Branch}
 use Rattle.branch.specs.Held.{held, restrict, Sound}
-use Rattle.branch.specs.Rows.{literals}
+use Rattle.branch.specs.Rows.{literals, literalCount}
 use Rattle.constraints.specs.Decoded.{decoded, Unpacked}
 use Rattle.places.specs.Alternatives.{slotsOf, childOf}
 use Rattle.search.specs.declared.Found.{Found}
@@ -25,14 +25,14 @@ use Rattle.search.specs.First.{firstPlace, found, spot, Located}
 use Rattle.step.specs.declared.Act.{Act}
 use Rattle.step.specs.declared.Act.the-variants.{Note, Merge, Close}
 use Rattle.step.specs.Left.{Left}
-use Rattle.quiet.specs.Quiet.{Quiet}
+use Rattle.quiet.specs.Quiet.{Quiet, pairMark, markWord}
 use Rattle.output.specs.State.{State, state, play, left, Fine}
 use Rattle.solver.specs.declared.Split.{Split}
 
 -- constraint i is woken by an act: by a note if it needs a literal of the masks, by a merge if two facts of one class can wake it
 abbrev pub wokenBy : List ℕ → Act → ℕ → Bool
-wokenBy words (Note h ins outs) i = any (λ (k : ℕ). bit (literals ins outs) k && bit (getD words (48 + k) 0) i) (upFrom 0 16)
-wokenBy words (Merge lo hi) i = bit (getD words 64 0) i
+wokenBy words (Note h ins outs) i = any (λ (k : ℕ). bit (literals ins outs) k && bit (getD words (markWord k) 0) i) (upFrom 0 literalCount)
+wokenBy words (Merge lo hi) i = bit (getD words (markWord pairMark) 0) i
 wokenBy words Close i = false
 
 abbrev pub Wakes : List ℕ → Act → ℕ → Type 0

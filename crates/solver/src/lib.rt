@@ -9,6 +9,7 @@ use output::note;
 use problem::Table;
 use problem::Totals;
 use search::Found;
+use search::PAIR_WORD;
 use search::Scope;
 use search::prepare;
 use search::search;
@@ -23,7 +24,9 @@ use step::slots;
 ghost use mathlib.Core.Path.{_≡_};
 ghost use Prim.Native.Nat.{_*_, _≤_};
 ghost use lib.ListN.{length};
+ghost use Rattle.calculus.specs.Limits.{mostSteps};
 ghost use Rattle.problem.specs.Table.{Opened, tableBy};
+ghost use Rattle.quiet.specs.Quiet.{wordCount};
 ghost use Rattle.search.specs.First.{Prepared};
 ghost use Rattle.output.specs.State.{state};
 ghost use Rattle.solver.specs.Outcomes.{Wakes, Outcome, SplitOutcome, Begun, Ready, Splits, Runs};
@@ -46,12 +49,12 @@ pub struct Split {
 
 // The constraints, as bits, that an act wakes.
 fn wakes(words: &[u64], a: Act) -> u64
-    requires { ⌜ length (now words) ≡ 67 ⌝ }
+    requires { ⌜ length (now words) ≡ wordCount ⌝ }
     ensures { λ r. ⌜ Wakes (now (words .entry)) a r ⌝ }
 {
     match a {
         Act::Note(_, x, y) => woken(words, x, y),
-        Act::Merge(_, _) => words[64],
+        Act::Merge(_, _) => words[PAIR_WORD],
         Act::Close => 0,
     }
 }
@@ -277,7 +280,7 @@ pub fn solve(
     forms: &mut [u8],
     trace: &mut [u8],
 ) -> Counts
-    requires { ⌜ Opened (now problem) tab × (budget ≤ 10000) × (4 * budget ≤ length (now trace)) ⌝ }
+    requires { ⌜ Opened (now problem) tab × (budget ≤ mostSteps) × (4 * budget ≤ length (now trace)) ⌝ }
     ensures { λ r. ⌜ Runs (now (problem .entry)) budget (now (forms .entry)) (now (trace .entry)) (state r (now (forms .exit)) (now (trace .exit))) ⌝ }
 {
     let b = Branch::start(tab.constants);

@@ -9,6 +9,7 @@ use native.Mathlib.Omega.{arith}
 use lib.ListN.{length, getD, length-map, List·getD-map}
 use lib.Dec.{eqb, ltb}
 use borrow.Author.Tests.{eq-eqb, ne-eqb, ltb-true}
+use Rattle.calculus.specs.Limits.{mostSets, mostTerms}
 use Rattle.calculus.specs.Terms.{Term, SetVar, term, setVar}
 use Rattle.calculus.specs.Relations.{Rule, Operand, Literal, Relation, operandOf, propagation}
 use Rattle.calculus.specs.Relations as R
@@ -24,6 +25,7 @@ use Rattle.branch.proofs.Roots.{root-is}
 use Rattle.places.specs.Places.{InSpan, RuleOf, listMove, moveAt}
 use Rattle.places.specs.Alternatives.{slotsOf, childOf}
 use Rattle.places.proofs.Slots.{in-spans, assert-one}
+use Rattle.branch.specs.Rows.{literalCount}
 use Rattle.constraints.specs.declared.Constraint.{Constraint}
 use Rattle.constraints.specs.declared.Constraint.the-variants.{Member, Nonmember, Same as Equated, Different, Related, Negated, Exactly, Interval}
 use Rattle.constraints.specs.declared.Relation.{Relation as CodedRelation}
@@ -95,7 +97,7 @@ pub by-case : {ps : List ℕ} {l m : Constraint} {j h c : ℕ} {a : Act} → l �
 by-case {ps} {l} {m} {j} {h} {c} {a} e = subst (λ (x : Constraint). ActsFor ps x j h c a) (sym e)
 
 -- the child of one literal has a row
-pub one-low : {l : Lit} {x : Child} → x ≡ only l → l .0 < 16 → LowChild x
+pub one-low : {l : Lit} {x : Child} → x ≡ only l → l .0 < literalCount → LowChild x
 one-low e k = subst LowChild (sym e) (k, k, k)
 
 -- ---- a child of a rule on sets
@@ -127,9 +129,9 @@ module _ (ps : List ℕ) (fall : Falls ps) (j h c : ℕ) (r : CodedTerm) (own : 
   module _ (es : List ℕ) (q : ℕ) where
     -- child c asserts literals of term t
     record Notes (m : Constraint) (t : ℕ) (s : Operand → SetVar) (rs : List (List Literal)) : Type 0 where
-      low : t < 64
+      low : t < mostTerms
       at : r .0 ≡ rootOf ps t
-      bounded : (o : Operand) → s o .index < 8
+      bounded : (o : Operand) → s o .index < mostSets
       not-20 : eqb j 20 ≡ false
       not-4 : eqb j 4 ≡ false
       small : few (getD rs c []) ≡ true
@@ -144,13 +146,13 @@ module _ (ps : List ℕ) (fall : Falls ps) (j h c : ℕ) (r : CodedTerm) (own : 
         (note-does ps fall t (N .low) r (N .at) s (N .bounded) xs some (omega arith) x e)
 
     -- of a rule with one child, of one literal
-    one-acts : (m : Constraint) → Placed ps es m j q h → c < slotsOf (decoded (map term es) m) j → (t : ℕ) → t < 64 → r .0 ≡ rootOf ps t → (A : SetVar) → A .index < 8 → Plain j → (o : Literal) → ((b : Branch) → b .parents ≡ ps → moveAt b (decoded (map term es) m) j q .1 .alternatives ≡ (factOf (term t) (λ _. A) o ∷ []) ∷ []) → (x : Child) → x ≡ child (λ _. A .index) (o ∷ []) → Acts ps (decoded (map term es) m) j q c (noteOf r x)
+    one-acts : (m : Constraint) → Placed ps es m j q h → c < slotsOf (decoded (map term es) m) j → (t : ℕ) → t < mostTerms → r .0 ≡ rootOf ps t → (A : SetVar) → A .index < mostSets → Plain j → (o : Literal) → ((b : Branch) → b .parents ≡ ps → moveAt b (decoded (map term es) m) j q .1 .alternatives ≡ (factOf (term t) (λ _. A) o ∷ []) ∷ []) → (x : Child) → x ≡ child (λ _. A .index) (o ∷ []) → Acts ps (decoded (map term es) m) j q c (noteOf r x)
     one-acts m P n t lt at A la pl o f x e =
         let z : c ≡ 0 = omega (arith, n, slots-other es m (P .handled) j (λ w. clash (eq-eqb j 20 w) (pl .not-20)), pl .once) in
         notes-acts m t (λ _. A) ((o ∷ []) ∷ []) record { low = lt; at = at; bounded = λ _. la; not-20 = pl .not-20; not-4 = pl .not-4; small = rw z; offers = f } x (rw z e)
 
     -- of a rule on sets, by its row
-    row-acts : (m : Constraint) (A B C : CodedSet) → Placed ps es m j q h → HasChild j A B c → C .0 < 8 → (t : ℕ) → t < 64 → r .0 ≡ rootOf ps t → ((b : Branch) → b .parents ≡ ps → moveAt b (decoded (map term es) m) j q .1 .alternatives ≡ map (map (factOf (term t) (operandOf (setVar (A .0)) (setVar (B .0)) (setVar (C .0))))) (numbered j .alternatives)) → (x : Child) → x ≡ child (sets A B C) (literalsOf j c) → Acts ps (decoded (map term es) m) j q c (noteOf r x)
+    row-acts : (m : Constraint) (A B C : CodedSet) → Placed ps es m j q h → HasChild j A B c → C .0 < mostSets → (t : ℕ) → t < mostTerms → r .0 ≡ rootOf ps t → ((b : Branch) → b .parents ≡ ps → moveAt b (decoded (map term es) m) j q .1 .alternatives ≡ map (map (factOf (term t) (operandOf (setVar (A .0)) (setVar (B .0)) (setVar (C .0))))) (numbered j .alternatives)) → (x : Child) → x ≡ child (sets A B C) (literalsOf j c) → Acts ps (decoded (map term es) m) j q c (noteOf r x)
     row-acts m A B C P H lc t lt at f x e = notes-acts m t (operandOf (setVar (A .0)) (setVar (B .0)) (setVar (C .0))) (numbered j .alternatives) record {
       low = lt;
       at = at;
@@ -161,7 +163,7 @@ module _ (ps : List ℕ) (fall : Falls ps) (j h c : ℕ) (r : CodedTerm) (own : 
       offers = f;
     } x (e ∙ ap (λ (s : Operand → ℕ). child s (literalsOf j c)) (fun-ext same))
       where
-        bounds : (o : Operand) → operandOf (setVar (A .0)) (setVar (B .0)) (setVar (C .0)) o .index < 8
+        bounds : (o : Operand) → operandOf (setVar (A .0)) (setVar (B .0)) (setVar (C .0)) o .index < mostSets
         bounds R.A = H .first-set
         bounds R.B = H .second-set
         bounds R.C = lc
@@ -172,10 +174,10 @@ module _ (ps : List ℕ) (fall : Falls ps) (j h c : ℕ) (r : CodedTerm) (own : 
         same R.C = refl
 
     -- of an entry
-    entry-acts : (m : Constraint) → Placed ps es m j q h → c < slotsOf (decoded (map term es) m) j → (A : CodedSet) → A .0 < 8 → j ≡ 19 → (ts : List Term) → ts ≡ map term es → ((b : Branch) → moveAt b (decoded (map term es) m) j q ≡ listMove b (setVar (A .0)) ts j q) → (x : Child) → x ≡ child (λ _. A .0) (R.In R.A ∷ []) → Acts ps (decoded (map term es) m) j q c (noteOf r x)
+    entry-acts : (m : Constraint) → Placed ps es m j q h → c < slotsOf (decoded (map term es) m) j → (A : CodedSet) → A .0 < mostSets → j ≡ 19 → (ts : List Term) → ts ≡ map term es → ((b : Branch) → moveAt b (decoded (map term es) m) j q ≡ listMove b (setVar (A .0)) ts j q) → (x : Child) → x ≡ child (λ _. A .0) (R.In R.A ∷ []) → Acts ps (decoded (map term es) m) j q c (noteOf r x)
     entry-acts m P n A la e ts z f =
         let move : (b : Branch) → moveAt b (decoded (map term es) m) j q ≡ (root b (term (getD es q 0)), propagation 19 [] (In (term (getD es q 0)) (setVar (A .0)))) = λ b. f b ∙ rw (e, z, List·getD-map term es q 0) in
-        one-acts m P n (getD es q 0) (each-at (λ (x : ℕ). x < 64) es 0 (entries-below es m (P .handled)) q (P .of-entry e))
+        one-acts m P n (getD es q 0) (each-at (λ (x : ℕ). x < mostTerms) es 0 (entries-below es m (P .handled)) q (P .of-entry e))
         (its-root (getD es q 0) (ap (λ (w : Term × Move). w .0 .index) (sym (move (listsOf ps [] []))) ∙ P .concerns)) (setVar (A .0)) la (rw e record { not-20 = refl; not-4 = refl; once = refl }) (R.In R.A) (λ b _. ap (λ (w : Term × Move). w .1 .alternatives) (move b))
 
   pub member-acts : (t : CodedTerm) (A : CodedSet) (x : Child) → x ≡ child (λ _. A .0) (R.In R.A ∷ []) → ActsFor ps (Member t A) j h c (noteOf r x)

@@ -28,6 +28,9 @@ pub type Mask = u8;
 // Literals, as bits: those of a mask of sets that something is in, then those of one that it is out of.
 pub type Literals = u16;
 
+// How many masks there are: as literals, those of "out of" begin with this bit.
+pub const MASKS: Literals = 1 << MOST_SETS;
+
 // How many literals there are, and the number of the first that is "out of".
 pub const LITERALS: usize = 2 * MOST_SETS;
 

@@ -4,6 +4,7 @@ use Prim.Native.Nat.{_-_, _≤_}
 use native.Mathlib.Omega.{arith}
 use lib.ListN.{length}
 use borrow.Author.Needs.{needs}
+use Rattle.calculus.specs.Limits.{mostTerms}
 use Rattle.calculus.specs.Lists.{upFrom}
 use Rattle.calculus.proofs.Bools.{not-t, not-f}
 use Rattle.calculus.specs.Reading.{read}
@@ -21,7 +22,7 @@ use Rattle.checker.proofs.holds.Reads as holds-reads
 
 abbrev Inv-loop : tie.InvT-loop
 Inv-loop problem tab assignment at numbers count i₀ i =
-    (i ≤ count) × Passed (seen problem tab assignment at) (constraintsOf (read problem)) i × (numbers ≡ upFrom 0 64)
+    (i ≤ count) × Passed (seen problem tab assignment at) (constraintsOf (read problem)) i × (numbers ≡ upFrom 0 mostTerms)
 
 abbrev μ-loop : tie.MeasureT-loop
 μ-loop problem tab assignment at numbers count i₀ i = count - i

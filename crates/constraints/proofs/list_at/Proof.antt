@@ -1,4 +1,4 @@
--- `list_at` meets its contract: each return has the entries of the constraint as it was matched. An interval that is not empty ends below 64, so the numbers have it.
+-- `list_at` meets its contract: each return has the entries of the constraint as it was matched. An interval that is not empty ends below mostTerms, so the numbers have it.
 use mathlib.Core.Path.{refl, ap}
 use borrow.Author.Needs.{needs}
 use native.Mathlib.Omega.{arith}

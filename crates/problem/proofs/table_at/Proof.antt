@@ -1,4 +1,5 @@
 -- `table_at` meets its contract: each return is what reading gives there, a refusal by the first question that is answered "no", or the table where none is.
+use native.Mathlib.Omega.{arith}
 use borrow.Author.Needs.{needs}
 use Rattle.problem.proofs.Reading.{no-constraint-count, many-constraints, constraint-refused, left-over, many-terms, table-made}
 use Rattle.problem.proofs.table_at.Statement.{statement}
@@ -16,6 +17,9 @@ returns c =
 shared-slice-read-m : tie.Need-shared-slice-read-m
 shared-slice-read-m c = search needs
 
+cast-m : tie.Need-cast-m
+cast-m c = omega (arith, c .shared-slice-known2 .given (c .before .before .before .args .at))
+
 refused-requires-2 : tie.Need-refused-requires-2
 refused-requires-2 c κs = search needs
 
@@ -30,9 +34,6 @@ add-constraints-at c = search needs
 
 add-constraints-at-2 : tie.Need-add-constraints-at-2
 add-constraints-at-2 c = search needs
-
-cast-constraints-at : tie.Need-cast-constraints-at
-cast-constraints-at c = search needs
 
 constraints-at-requires : tie.Need-constraints-at-requires
 constraints-at-requires c κs = search needs
@@ -67,6 +68,9 @@ returns-5 c =
 cast-t14 : tie.Need-cast-t14
 cast-t14 c = search needs
 
+cast-t15 : tie.Need-cast-t15
+cast-t15 c = search needs
+
 cast-t16 : tie.Need-cast-t16
 cast-t16 c = search needs
 
@@ -89,11 +93,11 @@ table-at-spec =
     refused-requires
     returns
     shared-slice-read-m
+    cast-m
     refused-requires-2
     returns-2
     add-constraints-at
     add-constraints-at-2
-    cast-constraints-at
     constraints-at-requires
     refused-requires-3
     returns-3
@@ -102,6 +106,7 @@ table-at-spec =
     refused-requires-5
     returns-5
     cast-t14
+    cast-t15
     cast-t16
     cast-t17
     cast-t18

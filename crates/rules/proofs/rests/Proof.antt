@@ -7,6 +7,7 @@ use lib.Dec.{eqb}
 use types.Run.{OneOf, miss}
 use denote.Enum.Declared.{tagOf}
 use borrow.Author.Needs.{needs}
+use Rattle.calculus.specs.Limits.{mostSets, mostTerms}
 use Rattle.calculus.specs.Invariants.{ConstraintIn}
 use Rattle.constraints.specs.declared.Constraint.{Constraint}
 use Rattle.constraints.specs.declared.Constraint.the-variants.{Member, Nonmember, Same, Different, Related, Negated, Exactly, Interval}
@@ -27,8 +28,8 @@ abbrev start-3 : tie.After-known-told3 → tie.Start
 start-3 c = c .before .before .before .before .before
 
 -- its operands are in range
-low : {l m : Constraint} → l ≡ m → ConstraintIn 64 8 (decoded [] l) → ConstraintIn 64 8 (decoded [] m)
-low e c = subst (λ (x : Constraint). ConstraintIn 64 8 (decoded [] x)) e c
+low : {l m : Constraint} → l ≡ m → ConstraintIn mostTerms mostSets (decoded [] l) → ConstraintIn mostTerms mostSets (decoded [] m)
+low e c = subst (λ (x : Constraint). ConstraintIn mostTerms mostSets (decoded [] x)) e c
 
 -- what a test of a number answers
 by-test : (parents rows : List ℕ) (entries : ℕ) (split : Bool) {l m : Constraint} {r w : ℕ} → l ≡ m → r ≡ w → eqb w 0 ≡ restsBy parents rows entries split m → eqb r 0 ≡ restsBy parents rows entries split l

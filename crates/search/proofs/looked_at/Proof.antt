@@ -4,6 +4,7 @@ use mathlib.Core.Logic.{⊎-elim}
 use native.Mathlib.Omega.{arith}
 use lib.Count.{trailingZeros}
 use borrow.Author.Needs.{needs}
+use Rattle.calculus.specs.Limits.{mostSets, mostTerms}
 use Rattle.calculus.specs.Invariants.{ConstraintIn}
 use Rattle.bits.proofs.Count.{less-lt}
 use Rattle.constraints.proofs.Decoding.{in-range}
@@ -77,7 +78,7 @@ shared-slice-read-rests : tie.Need-shared-slice-read-rests Inv-loop μ-loop
 shared-slice-read-rests c = let t = turn (c .before) in let d = there t in omega (arith, start (begun t) .pre .0 .long)
 
 rests-requires : tie.Need-rests-requires Inv-loop μ-loop
-rests-requires c κs = let d = c .before in let t = turn d in (start (begun t) .pre .1, unlisted-in (d .decode-at .result) _ (subst (ConstraintIn 64 8) (d .decode-at .ensures) (in-range _ _ _ (there t .stands))))
+rests-requires c κs = let d = c .before in let t = turn d in (start (begun t) .pre .1, unlisted-in (d .decode-at .result) _ (subst (ConstraintIn mostTerms mostSets) (d .decode-at .ensures) (in-range _ _ _ (there t .stands))))
 
 cast-bit-at : tie.Need-cast-bit-at Inv-loop μ-loop
 cast-bit-at c = let t = there (turn (c .before .before .before)) in omega arith

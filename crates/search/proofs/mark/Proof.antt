@@ -3,6 +3,7 @@ use Prim.Native.Nat.{_<_}
 use native.Mathlib.Omega.{arith}
 use lib.Count.{trailingZeros}
 use borrow.Author.Needs.{needs}
+use Rattle.quiet.specs.Quiet.{markCount}
 use Rattle.bits.proofs.Count.{less-lt}
 use Rattle.search.proofs.Marking.{Marking, mark-start, mark-end, low-lt, mark-next}
 use Rattle.search.proofs.mark.Statement.{statement}
@@ -14,8 +15,8 @@ Inv-loop words₀ literals i one left₀ words left = Marking literals i words�
 abbrev μ-loop : tie.MeasureT-loop
 μ-loop words₀ literals i one left₀ words left = left
 
--- the lowest literal that is left is below 19
-there : (c : tie.In-loop Inv-loop μ-loop) → trailingZeros 64 (c .before .loop .left) < 19
+-- the lowest literal that is left is below markCount
+there : (c : tie.In-loop Inv-loop μ-loop) → trailingZeros 64 (c .before .loop .left) < markCount
 there c = low-lt (c .before .loop .inv) (c .loop-test .taken)
 
 bit-at-requires : tie.Need-bit-at-requires Inv-loop μ-loop

@@ -2,6 +2,7 @@
 use Prim.Native.Nat.{_<_}
 use native.Mathlib.Omega.{arith}
 use borrow.Author.Needs.{needs}
+use Rattle.calculus.specs.Limits.{mostSets}
 use Rattle.search.proofs.Needing.{row-low, one-premise, two-premises}
 use Rattle.search.proofs.premises.Statement.{statement}
 use Rattle.search.proofs.premises.Tie as tie
@@ -10,7 +11,7 @@ use Rattle.search.proofs.premises.Tie as tie
 abbrev start : tie.After-row-of → tie.Start
 start c = c .before
 
-low : (s : tie.Start) → (s .args .a .0 < 8) × (s .args .b .0 < 8) × (s .args .c .0 < 8)
+low : (s : tie.Start) → (s .args .a .0 < mostSets) × (s .args .b .0 < mostSets) × (s .args .c .0 < mostSets)
 low s = (s .pre .0 .first-set, s .pre .0 .second-set, s .pre .1)
 
 row-of-requires : tie.Need-row-of-requires

@@ -2,7 +2,8 @@
 use Prim.Native.Nat.{_<_}
 use native.Mathlib.Omega.{arith}
 use lib.Count.{trailingZeros}
-use Rattle.branch.specs.Rows.{literals}
+use borrow.Author.Needs.{needs}
+use Rattle.branch.specs.Rows.{literals, literalCount}
 use Rattle.bits.proofs.Count.{lowest-lt, less-lt}
 use Rattle.search.proofs.Marking.{Gathering, gather-start, gather-next, gather-end}
 use Rattle.search.proofs.woken.Statement.{statement}
@@ -14,18 +15,15 @@ Inv-loop words ins outs found₀ left₀ found left = Gathering words (literals 
 abbrev μ-loop : tie.MeasureT-loop
 μ-loop words ins outs found₀ left₀ found left = left
 
--- the lowest literal that is left is below 16
-there : (c : tie.In-loop Inv-loop μ-loop) → trailingZeros 16 (c .before .loop .left) < 16
-there c = lowest-lt 16 (c .before .loop .left) (c .before .loop .inv .small) (c .loop-test .taken)
+-- the lowest literal that is left has a word
+there : (c : tie.In-loop Inv-loop μ-loop) → trailingZeros literalCount (c .before .loop .left) < literalCount
+there c = lowest-lt literalCount (c .before .loop .left) (c .before .loop .inv .small) (c .loop-test .taken)
 
-mul-left : tie.Need-mul-left Inv-loop μ-loop
-mul-left c = omega arith
-
-add-left : tie.Need-add-left Inv-loop μ-loop
-add-left c = omega arith
+literals-of-requires : tie.Need-literals-of-requires Inv-loop μ-loop
+literals-of-requires c κs = search needs
 
 loop-holds : tie.Need-loop-holds Inv-loop μ-loop
-loop-holds c = gather-start _ (omega arith) (omega arith)
+loop-holds c = gather-start _ (c .literals-of .ensures) (omega arith)
 
 cast-k : tie.Need-cast-k Inv-loop μ-loop
 cast-k c = omega (arith, there c)
@@ -52,4 +50,4 @@ returns : tie.Need-returns Inv-loop μ-loop
 returns c = gather-end (c .before .loop .inv) (c .loop-test .left)
 
 pub woken-spec : {M : Type 1} → statement M
-woken-spec = tie.close (tie.spec Inv-loop μ-loop mul-left add-left loop-holds cast-k add-k mul-found shared-slice-read-found sub-left loop-less loop-again returns)
+woken-spec = tie.close (tie.spec Inv-loop μ-loop literals-of-requires loop-holds cast-k add-k mul-found shared-slice-read-found sub-left loop-less loop-again returns)

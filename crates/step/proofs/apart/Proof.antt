@@ -1,4 +1,4 @@
--- `apart` meets its contract. The loop keeps: the bits found are those of the first k literals. It ends: 16 less k falls.
+-- `apart` meets its contract. The loop keeps: the bits found are those of the first k literals. It ends: literalCount less k falls.
 use mathlib.Core.Path.{_≡_, sym, _∙_, ap}
 use mathlib.Core.Logic.{⊎-elim}
 use Prim.Native.Nat.{ℕ, _-_, _≤_}
@@ -6,6 +6,7 @@ use native.Mathlib.Omega.{arith}
 use lib.ListN.{getD}
 use borrow.Author.Needs.{needs}
 use Rattle.calculus.specs.Lists.{bit}
+use Rattle.branch.specs.Rows.{literalCount}
 use Rattle.bits.proofs.Bits.{bit-zero}
 use Rattle.step.specs.Left.{clashes}
 use Rattle.step.proofs.Joining.{clash-take, clash-skip, clash-all, apart-fixed, apart-free}
@@ -13,10 +14,10 @@ use Rattle.step.proofs.apart.Statement.{statement}
 use Rattle.step.proofs.apart.Tie as tie
 
 abbrev Inv-loop : tie.InvT-loop
-Inv-loop insides outsides rows fixed p i opposite found₀ k₀ found k = (k ≤ 16) × ((h : ℕ) → bit found h ≡ clashes rows (getD insides (p .0) 0) (getD outsides (p .0) 0) k h)
+Inv-loop insides outsides rows fixed p i opposite found₀ k₀ found k = (k ≤ literalCount) × ((h : ℕ) → bit found h ≡ clashes rows (getD insides (p .0) 0) (getD outsides (p .0) 0) k h)
 
 abbrev μ-loop : tie.MeasureT-loop
-μ-loop insides outsides rows fixed p i opposite found₀ k₀ found k = 16 - k
+μ-loop insides outsides rows fixed p i opposite found₀ k₀ found k = literalCount - k
 
 -- the start, from a turn of the loop and from its end
 abbrev turn : tie.In-loop Inv-loop μ-loop → tie.Start Inv-loop μ-loop

@@ -4,6 +4,7 @@ use borrow.Author.Tests.{le-leb}
 use Prim.Native.Nat.{_+_, _*_, _-_}
 use native.Mathlib.Omega.{arith}
 use lib.ListN.{take, drop}
+use Rattle.calculus.specs.Limits.{mostSets}
 use Rattle.calculus.specs.Reading.{letters}
 use Rattle.problem.specs.Sections.{setsTest}
 use Rattle.problem.proofs.SectionLaws.{Stands, found, passes-on, answers-yes, answers-no, names-part, too-many}
@@ -52,7 +53,7 @@ returns-3 c =
     let v = c .before .before .before .before .before .before .before .section-at in
     let z = c .before .before .before .before .before .if1 .left in
     let f = found 1 (a .problem .now) (a .at) (v .result) (v .ensures) z in
-    answers-yes 1 5 setsTest (a .problem .now) (a .at) _ (v .ensures) z (rw (le-leb (v .result .count) 8 (c .before .before .before .if2 .left), ← names-part (a .problem .now) (a .at) (v .result) (f .0), ← c .before .letters-ok .ensures, c .if3 .taken))
+    answers-yes 1 5 setsTest (a .problem .now) (a .at) _ (v .ensures) z (rw (le-leb (v .result .count) mostSets (c .before .before .before .if2 .left), ← names-part (a .problem .now) (a .at) (v .result) (f .0), ← c .before .letters-ok .ensures, c .if3 .taken))
 
 stopped-requires-2 : tie.Need-stopped-requires-2
 stopped-requires-2 c κs = search needs
