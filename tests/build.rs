@@ -1,6 +1,7 @@
 // Links the static library `capi` from the folder named by FUSELINDA_LIB; and,
 // if FUSELINDA_BEFORE names a folder, `before` from it: the library of another
 // commit, whose symbols begin with before_ (tests/bench-beside makes it).
+// Without FUSELINDA_LIB there is no module `ffi`: print_cases does without.
 fn link(variable: &str, library: &str) -> bool {
     println!("cargo:rerun-if-env-changed={variable}");
     let Ok(folder) = std::env::var(variable) else { return false };
@@ -11,8 +12,10 @@ fn link(variable: &str, library: &str) -> bool {
 }
 
 fn main() {
-    assert!(link("FUSELINDA_LIB", "capi"), "set FUSELINDA_LIB to the folder that holds libcapi.a");
-    println!("cargo:rustc-check-cfg=cfg(before)");
+    println!("cargo:rustc-check-cfg=cfg(library, before)");
+    if link("FUSELINDA_LIB", "capi") {
+        println!("cargo:rustc-cfg=library");
+    }
     if link("FUSELINDA_BEFORE", "before") {
         println!("cargo:rustc-cfg=before");
     }

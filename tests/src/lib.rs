@@ -3,6 +3,8 @@
 
 pub mod check;
 pub mod coverage;
+// The library: only where FUSELINDA_LIB names its folder.
+#[cfg(library)]
 pub mod ffi;
 pub mod generate;
 pub mod listing;

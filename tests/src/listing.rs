@@ -4,7 +4,7 @@
 use crate::answer;
 use crate::generate::Plan;
 use crate::sheet::Sheet;
-use crate::solver;
+use crate::solver::{self, TERM_BYTES};
 
 /// What the listing program reads at most.
 pub const MOST_READ: usize = 4097;
@@ -17,25 +17,31 @@ pub fn listing(input: &[u8]) -> Vec<u8> {
     let mut forms = vec![0; ROOM];
     let mut trace = vec![0; 4 * BUDGET as usize];
     let word = solver::run(problem, BUDGET, &mut forms, &mut trace);
+    let mut text = heading(word);
+    if let Ok(sheet) = Sheet::read(problem) {
+        let size = TERM_BYTES * sheet.terms;
+        for at in 0..answer::forms(word) as usize {
+            let model = Plan::worked(&sheet, &forms[at * size..(at + 1) * size]);
+            text += &line(&sheet, &model);
+        }
+    }
+    text.into_bytes()
+}
+
+/// The first line, of this answer.
+pub fn heading(word: u64) -> String {
     let verdict = match answer::verdict(word) {
         answer::FORMS => "FORMS",
         answer::FALSE => "FALSE",
         answer::SPENT => "SPENT",
         answer::NO_ROOM => "NOROOM",
-        _ => return format!("REFUSED {}\n", answer::number(word)).into_bytes(),
+        _ => return format!("REFUSED {}\n", answer::number(word)),
     };
-    let listed = answer::forms(word) as usize;
-    let mut text = format!("{verdict} {listed} STEPS {}\n", answer::steps(word));
-    let sheet = Sheet::read(problem).expect("the run was not refused");
-    let size = 3 * sheet.terms;
-    for at in 0..listed {
-        let model = Plan::worked(&sheet, &forms[at * size..(at + 1) * size]);
-        text += &line(&sheet, &model);
-    }
-    text.into_bytes()
+    format!("{verdict} {} STEPS {}\n", answer::forms(word), answer::steps(word))
 }
 
-fn line(sheet: &Sheet, model: &Plan) -> String {
+/// The line of a form.
+pub fn line(sheet: &Sheet, model: &Plan) -> String {
     let mut parts = Vec::new();
     for (&name, value) in sheet.names.iter().zip(&model.values) {
         parts.push(format!("{}={value}", name as char));

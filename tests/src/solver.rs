@@ -4,6 +4,8 @@ use crate::answer;
 use crate::sheet::{Line, Sheet, MAX_TERMS};
 
 pub const MAX_BUDGET: u64 = 10_000;
+/// The bytes of a term in a form record.
+pub const TERM_BYTES: usize = 3;
 
 /// Classes of terms and their facts. Facts stand at the head; the masks of a
 /// term that is not a head are 0.
@@ -234,7 +236,7 @@ fn split(place: &Place, branch: &Branch, constants: usize, stack: &mut Vec<Branc
 }
 
 fn write_form(branch: &Branch, record: &mut [u8]) {
-    for (t, bytes) in record.chunks_exact_mut(3).enumerate() {
+    for (t, bytes) in record.chunks_exact_mut(TERM_BYTES).enumerate() {
         let head = branch.head(t);
         bytes[0] = head as u8;
         bytes[1] = branch.ins[head];
@@ -256,7 +258,7 @@ pub fn run(problem: &[u8], budget: u64, forms: &mut [u8], trace: &mut [u8]) -> u
     }
 
     let constants = sheet.constants();
-    let size = 3 * sheet.terms;
+    let size = TERM_BYTES * sheet.terms;
     let longest = sheet.terms * (sheet.sets.len() + 1);
     let mut steps = 0;
     let mut listed = 0;

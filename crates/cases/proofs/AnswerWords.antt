@@ -1,3 +1,4 @@
+-- Printed by tests/print-cases from rows/AnswerWords.rows: do not edit.
 -- The answer word of each case: bits 0 to 7 the verdict, 8 to 15 the refusal number or the failing constraint, 16 to 31 the steps, 32 to 63 the solved forms.
 use mathlib.Core.Path.{_≡_, refl}
 use mathlib.Core.List.{List, [], _∷_, map}
@@ -9,12 +10,12 @@ runs =
     -- refused by question 13
     (refusal 13, 0x0D00)
     -- C1, C7, C2 and C3
-    ∷ (ended FORMS 5 1, 0x1_0005_0001)
+    ∷ (ended FORMS 5 1, 0x0001_0005_0001)
     ∷ (ended FALSE 1 0, 0x0001_0002)
     ∷ (ended SPENT 4 0, 0x0004_0003)
     ∷ (ended NOROOM 5 0, 0x0005_0004)
     -- the most steps, and more than 16 bits of solved forms
-    ∷ (ended FORMS 10000 70000, 0x1_1170_2710_0001)
+    ∷ (ended FORMS 10000 70000, 0x0001_1170_2710_0001)
     ∷ []
 
 unfoldable pub checks : List (Checked × ℕ)

@@ -1,3 +1,4 @@
+-- Printed by tests/print-cases from rows/Assignments.rows: do not edit.
 -- The assignment check: each kind of constraint holds and fails, and the lowest that fails.
 use mathlib.Core.Path.{_≡_, refl}
 use mathlib.Core.List.{List, [], _∷_, map}

@@ -1,3 +1,4 @@
+-- Printed by tests/print-cases from rows/Document.rows: do not edit.
 -- C1 to C12 of document 01 ("Sheets to try"), and the models that it gives. Bytes are written in hexadecimal, as there.
 use mathlib.Core.Path.{_≡_, refl}
 use mathlib.Core.List.{List, [], _∷_, map}

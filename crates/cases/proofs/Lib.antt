@@ -1,4 +1,4 @@
--- Tables of examples: what the definitions give for each row is what the row expects. The expected values are those of document 01 or, beyond it, of a solver written separately from these definitions. FormMeaning has theorems instead of a table.
+-- Tables of examples: what the definitions give for each row is what the row expects. tests/print-cases prints them from rows/. The expected values are those of document 01 or, beyond it, of a solver written separately from these definitions. Paths and FormMeaning are written by hand and have theorems instead of a table.
 pub mod Rows
 pub mod Document
 pub mod Mistakes

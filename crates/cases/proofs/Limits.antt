@@ -1,16 +1,17 @@
+-- Printed by tests/print-cases from rows/Limits.rows: do not edit.
 -- Both sides of each limit.
 use mathlib.Core.Path.{_≡_, refl}
 use mathlib.Core.List.{List, [], _∷_, _++_, map}
 use lib.ListN.{replicate}
 use Rattle.calculus.specs.Lists.{upFrom}
 use Rattle.calculus.specs.Calls.{FORMS, FALSE, SPENT, NOROOM, refusal, ended, declined, HOLDS, FAILS}
-use Rattle.cases.proofs.Rows.{Row, run, check, wordsFrom, freeFrom, repeated, expected, given}
+use Rattle.cases.proofs.Rows.{Row, run, check, wordsFrom, repeated, expected, given}
 
 unfoldable pub table : List Row
 table =
-    -- 64 constants, form buffer of 192 bytes
-    run ((64 ∷ []) ++ wordsFrom 0 64 ++ (0 ∷ 0 ∷ 0 ∷ [])) 12 192 48 (ended FORMS 0 1) (freeFrom 0 64) []
-    -- 64 constants, form buffer of 191 bytes
+    -- 64 constants, form buffer of one record
+    run ((64 ∷ []) ++ wordsFrom 0 64 ++ (0 ∷ 0 ∷ 0 ∷ [])) 12 192 48 (ended FORMS 0 1) (0 ∷ 0 ∷ 0 ∷ 1 ∷ 0 ∷ 0 ∷ 2 ∷ 0 ∷ 0 ∷ 3 ∷ 0 ∷ 0 ∷ 4 ∷ 0 ∷ 0 ∷ 5 ∷ 0 ∷ 0 ∷ 6 ∷ 0 ∷ 0 ∷ 7 ∷ 0 ∷ 0 ∷ 8 ∷ 0 ∷ 0 ∷ 9 ∷ 0 ∷ 0 ∷ 10 ∷ 0 ∷ 0 ∷ 11 ∷ 0 ∷ 0 ∷ 12 ∷ 0 ∷ 0 ∷ 13 ∷ 0 ∷ 0 ∷ 14 ∷ 0 ∷ 0 ∷ 15 ∷ 0 ∷ 0 ∷ 16 ∷ 0 ∷ 0 ∷ 17 ∷ 0 ∷ 0 ∷ 18 ∷ 0 ∷ 0 ∷ 19 ∷ 0 ∷ 0 ∷ 20 ∷ 0 ∷ 0 ∷ 21 ∷ 0 ∷ 0 ∷ 22 ∷ 0 ∷ 0 ∷ 23 ∷ 0 ∷ 0 ∷ 24 ∷ 0 ∷ 0 ∷ 25 ∷ 0 ∷ 0 ∷ 26 ∷ 0 ∷ 0 ∷ 27 ∷ 0 ∷ 0 ∷ 28 ∷ 0 ∷ 0 ∷ 29 ∷ 0 ∷ 0 ∷ 30 ∷ 0 ∷ 0 ∷ 31 ∷ 0 ∷ 0 ∷ 32 ∷ 0 ∷ 0 ∷ 33 ∷ 0 ∷ 0 ∷ 34 ∷ 0 ∷ 0 ∷ 35 ∷ 0 ∷ 0 ∷ 36 ∷ 0 ∷ 0 ∷ 37 ∷ 0 ∷ 0 ∷ 38 ∷ 0 ∷ 0 ∷ 39 ∷ 0 ∷ 0 ∷ 40 ∷ 0 ∷ 0 ∷ 41 ∷ 0 ∷ 0 ∷ 42 ∷ 0 ∷ 0 ∷ 43 ∷ 0 ∷ 0 ∷ 44 ∷ 0 ∷ 0 ∷ 45 ∷ 0 ∷ 0 ∷ 46 ∷ 0 ∷ 0 ∷ 47 ∷ 0 ∷ 0 ∷ 48 ∷ 0 ∷ 0 ∷ 49 ∷ 0 ∷ 0 ∷ 50 ∷ 0 ∷ 0 ∷ 51 ∷ 0 ∷ 0 ∷ 52 ∷ 0 ∷ 0 ∷ 53 ∷ 0 ∷ 0 ∷ 54 ∷ 0 ∷ 0 ∷ 55 ∷ 0 ∷ 0 ∷ 56 ∷ 0 ∷ 0 ∷ 57 ∷ 0 ∷ 0 ∷ 58 ∷ 0 ∷ 0 ∷ 59 ∷ 0 ∷ 0 ∷ 60 ∷ 0 ∷ 0 ∷ 61 ∷ 0 ∷ 0 ∷ 62 ∷ 0 ∷ 0 ∷ 63 ∷ 0 ∷ 0 ∷ []) []
+    -- 64 constants, form buffer a byte short of one record
     ∷ run ((64 ∷ []) ++ wordsFrom 0 64 ++ (0 ∷ 0 ∷ 0 ∷ [])) 12 191 48 (ended NOROOM 0 0) [] []
     -- 65 constants
     ∷ run ((65 ∷ []) ++ wordsFrom 0 65 ++ (0 ∷ 0 ∷ 0 ∷ [])) 5 192 20 (refusal 11) [] []
@@ -38,8 +39,8 @@ table =
     ∷ run ((17 ∷ []) ++ wordsFrom 0 17 ++ (0 ∷ 7 ∷ 65 ∷ 66 ∷ 67 ∷ 68 ∷ 69 ∷ 70 ∷ 71 ∷ 48 ∷ []) ++ replicate 144 6) 5 192 20 (refusal 11) [] []
     -- 64 terms: term 63 ≠ term 63
     ∷ run ((63 ∷ []) ++ wordsFrom 0 63 ++ (1 ∷ 120 ∷ 0 ∷ 1 ∷ 4 ∷ 63 ∷ 63 ∷ [])) 12 192 48 (ended FALSE 1 0) [] (4 ∷ 0 ∷ 63 ∷ 0 ∷ [])
-    -- 26 variables, form buffer of 78 bytes
-    ∷ run ((0 ∷ 26 ∷ []) ++ upFrom 97 26 ++ (0 ∷ 0 ∷ [])) 12 78 48 (ended FORMS 0 1) (freeFrom 0 26) []
+    -- 26 variables, form buffer of one record
+    ∷ run ((0 ∷ 26 ∷ []) ++ upFrom 97 26 ++ (0 ∷ 0 ∷ [])) 12 78 48 (ended FORMS 0 1) (0 ∷ 0 ∷ 0 ∷ 1 ∷ 0 ∷ 0 ∷ 2 ∷ 0 ∷ 0 ∷ 3 ∷ 0 ∷ 0 ∷ 4 ∷ 0 ∷ 0 ∷ 5 ∷ 0 ∷ 0 ∷ 6 ∷ 0 ∷ 0 ∷ 7 ∷ 0 ∷ 0 ∷ 8 ∷ 0 ∷ 0 ∷ 9 ∷ 0 ∷ 0 ∷ 10 ∷ 0 ∷ 0 ∷ 11 ∷ 0 ∷ 0 ∷ 12 ∷ 0 ∷ 0 ∷ 13 ∷ 0 ∷ 0 ∷ 14 ∷ 0 ∷ 0 ∷ 15 ∷ 0 ∷ 0 ∷ 16 ∷ 0 ∷ 0 ∷ 17 ∷ 0 ∷ 0 ∷ 18 ∷ 0 ∷ 0 ∷ 19 ∷ 0 ∷ 0 ∷ 20 ∷ 0 ∷ 0 ∷ 21 ∷ 0 ∷ 0 ∷ 22 ∷ 0 ∷ 0 ∷ 23 ∷ 0 ∷ 0 ∷ 24 ∷ 0 ∷ 0 ∷ 25 ∷ 0 ∷ 0 ∷ []) []
     -- 8 sets: x in H
     ∷ run (0 ∷ 1 ∷ 120 ∷ 8 ∷ 65 ∷ 66 ∷ 67 ∷ 68 ∷ 69 ∷ 70 ∷ 71 ∷ 72 ∷ 1 ∷ 1 ∷ 0 ∷ 7 ∷ []) 12 192 48 (ended FORMS 1 1) (0 ∷ 128 ∷ 0 ∷ []) (1 ∷ 0 ∷ 0 ∷ 1 ∷ [])
     -- 8 sets: x not in H
@@ -128,7 +129,7 @@ table =
     ∷ run (0 ∷ 0 ∷ 1 ∷ 65 ∷ 1 ∷ 6 ∷ 0 ∷ 0 ∷ []) 12 0 48 (ended FALSE 1 0) [] (7 ∷ 0 ∷ 0 ∷ 0 ∷ [])
     -- form buffer of 0 bytes: an empty record fits
     ∷ run (0 ∷ 0 ∷ 0 ∷ 0 ∷ []) 0 0 0 (ended FORMS 0 1) [] []
-    -- form buffer of 0 bytes: a record of 3 bytes does not
+    -- form buffer of 0 bytes: a record of one term does not
     ∷ run (0 ∷ 1 ∷ 120 ∷ 0 ∷ 0 ∷ []) 12 0 48 (ended NOROOM 0 0) [] []
     -- no term, but sets and constraints: one empty record
     ∷ run (0 ∷ 0 ∷ 2 ∷ 65 ∷ 66 ∷ 2 ∷ 5 ∷ 0 ∷ 1 ∷ 11 ∷ 0 ∷ 0 ∷ []) 12 192 48 (ended FORMS 0 1) [] []

@@ -1,3 +1,4 @@
+-- Printed by tests/print-cases from rows/Listings.rows: do not edit.
 -- Listings of some of document 01's problems and of a few more, and the first line of each kind of answer, worked from the definitions.
 use mathlib.Core.Path.{_≡_, refl}
 use mathlib.Core.List.{List, [], _∷_, _++_, map}
@@ -58,7 +59,7 @@ table =
     ∷ record { problem = 0x02 ∷ 0x03 ∷ 0x00 ∷ 0x04 ∷ 0x00 ∷ 0x01 ∷ 0x78 ∷ 0x01 ∷ 0x41 ∷ 0x03 ∷ 0x01 ∷ 0x02 ∷ 0x00 ∷ 0x0C ∷ 0x00 ∷ 0x00 ∷ 0x01 ∷ 0x04 ∷ 0x02 ∷ 0x00 ∷ 0x00 ∷ []; lines = (82 ∷ 69 ∷ 70 ∷ 85 ∷ 83 ∷ 69 ∷ 68 ∷ 32 ∷ 49 ∷ 48 ∷ 10 ∷ []) ∷ [] }
     -- 65 constants
     -- REFUSED 11
-    ∷ record { problem = (65 ∷ []) ++ wordsFrom 0 65 ++ (0 ∷ 0 ∷ 0 ∷ []); lines = (82 ∷ 69 ∷ 70 ∷ 85 ∷ 83 ∷ 69 ∷ 68 ∷ 32 ∷ 49 ∷ 49 ∷ 10 ∷ []) ∷ [] }
+    ∷ record { problem = (0x41 ∷ []) ++ wordsFrom 0 65 ++ (0x00 ∷ 0x00 ∷ 0x00 ∷ []); lines = (82 ∷ 69 ∷ 70 ∷ 85 ∷ 83 ∷ 69 ∷ 68 ∷ 32 ∷ 49 ∷ 49 ∷ 10 ∷ []) ∷ [] }
     ∷ []
 
 rows : map (λ (r : Row). listing (r .problem)) table ≡ map (λ (r : Row). r .lines) table
@@ -78,7 +79,8 @@ headings =
     ∷ (ended NOROOM 914 910, 78 ∷ 79 ∷ 82 ∷ 79 ∷ 79 ∷ 77 ∷ 32 ∷ 57 ∷ 49 ∷ 48 ∷ 32 ∷ 83 ∷ 84 ∷ 69 ∷ 80 ∷ 83 ∷ 32 ∷ 57 ∷ 49 ∷ 52 ∷ 10 ∷ [])
     -- REFUSED 1
     ∷ (refusal 1, 82 ∷ 69 ∷ 70 ∷ 85 ∷ 83 ∷ 69 ∷ 68 ∷ 32 ∷ 49 ∷ 10 ∷ [])
-    -- REFUSED 14, which no run answers
+    -- no run answers this
+    -- REFUSED 14
     ∷ (refusal 14, 82 ∷ 69 ∷ 70 ∷ 85 ∷ 83 ∷ 69 ∷ 68 ∷ 32 ∷ 49 ∷ 52 ∷ 10 ∷ [])
     ∷ []
 

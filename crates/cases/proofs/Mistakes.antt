@@ -1,3 +1,4 @@
+-- Printed by tests/print-cases from rows/Mistakes.rows: do not edit.
 -- What trainees' solvers got wrong (document 01), and what trainees believe (the customer's words, quoted).
 use mathlib.Core.Path.{_≡_, refl}
 use mathlib.Core.List.{List, [], _∷_, map}

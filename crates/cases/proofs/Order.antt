@@ -1,7 +1,7 @@
+-- Printed by tests/print-cases from rows/Order.rows: do not edit.
 -- The order of work: constraints, rules and roots, propagation before splits, and depth first.
 use mathlib.Core.Path.{_≡_, refl}
 use mathlib.Core.List.{List, [], _∷_, map}
-use lib.ListN.{replicate}
 use Rattle.calculus.specs.Calls.{FORMS, FALSE, SPENT, ended}
 use Rattle.cases.proofs.Rows.{Row, run, expected, given}
 
@@ -102,7 +102,7 @@ table =
     -- merging merges the roots: b in A, b = c, c = a
     ∷ run (0 ∷ 3 ∷ 97 ∷ 98 ∷ 99 ∷ 1 ∷ 65 ∷ 3 ∷ 1 ∷ 1 ∷ 0 ∷ 3 ∷ 1 ∷ 2 ∷ 3 ∷ 2 ∷ 0 ∷ []) 12 192 48 (ended FORMS 3 1) (0 ∷ 1 ∷ 0 ∷ 0 ∷ 1 ∷ 0 ∷ 0 ∷ 1 ∷ 0 ∷ []) (1 ∷ 0 ∷ 1 ∷ 1 ∷ 3 ∷ 1 ∷ 1 ∷ 1 ∷ 3 ∷ 2 ∷ 1 ∷ 1 ∷ [])
     -- merging two classes of two: a = c, b = d, c = d
-    ∷ run (0 ∷ 4 ∷ 97 ∷ 98 ∷ 99 ∷ 100 ∷ 0 ∷ 3 ∷ 3 ∷ 0 ∷ 2 ∷ 3 ∷ 1 ∷ 3 ∷ 3 ∷ 2 ∷ 3 ∷ []) 12 192 48 (ended FORMS 3 1) (replicate 12 0) (3 ∷ 0 ∷ 0 ∷ 1 ∷ 3 ∷ 1 ∷ 1 ∷ 1 ∷ 3 ∷ 2 ∷ 0 ∷ 1 ∷ [])
+    ∷ run (0 ∷ 4 ∷ 97 ∷ 98 ∷ 99 ∷ 100 ∷ 0 ∷ 3 ∷ 3 ∷ 0 ∷ 2 ∷ 3 ∷ 1 ∷ 3 ∷ 3 ∷ 2 ∷ 3 ∷ []) 12 192 48 (ended FORMS 3 1) (0 ∷ 0 ∷ 0 ∷ 0 ∷ 0 ∷ 0 ∷ 0 ∷ 0 ∷ 0 ∷ 0 ∷ 0 ∷ 0 ∷ []) (3 ∷ 0 ∷ 0 ∷ 1 ∷ 3 ∷ 1 ∷ 1 ∷ 1 ∷ 3 ∷ 2 ∷ 0 ∷ 1 ∷ [])
     -- two constants meet through variables: x = 3, y = 4, x = y
     ∷ run (2 ∷ 3 ∷ 0 ∷ 4 ∷ 0 ∷ 2 ∷ 120 ∷ 121 ∷ 0 ∷ 3 ∷ 3 ∷ 2 ∷ 0 ∷ 3 ∷ 3 ∷ 1 ∷ 3 ∷ 2 ∷ 3 ∷ []) 12 192 48 (ended FALSE 3 0) [] (3 ∷ 0 ∷ 2 ∷ 1 ∷ 3 ∷ 1 ∷ 3 ∷ 1 ∷ 3 ∷ 2 ∷ 0 ∷ 0 ∷ [])
     -- rule 4 and rule 1 compete, the constraint decides: x in A, x ≠ x

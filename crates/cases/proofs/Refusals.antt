@@ -1,3 +1,4 @@
+-- Printed by tests/print-cases from rows/Refusals.rows: do not edit.
 -- The refusals: every question answered "no", and of two such questions the first.
 use mathlib.Core.Path.{_≡_, refl}
 use mathlib.Core.List.{List, [], _∷_, _++_, map}

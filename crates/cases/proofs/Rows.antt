@@ -51,11 +51,6 @@ abbrev pub wordsFrom : ℕ → ℕ → List ℕ
 wordsFrom a zero = []
 wordsFrom a (suc n) = a % 256 ∷ a / 256 ∷ wordsFrom (suc a) n
 
--- the record of n terms from t upward, each its own class and nothing known
-abbrev pub freeFrom : ℕ → ℕ → List ℕ
-freeFrom t zero = []
-freeFrom t (suc n) = t ∷ 0 ∷ 0 ∷ freeFrom (suc t) n
-
 -- n times the same bytes
 abbrev pub repeated : ℕ → List ℕ → List ℕ
 repeated zero bs = []

@@ -1,3 +1,4 @@
+-- Printed by tests/print-cases from rows/Rules.rows: do not edit.
 -- The twenty rules: each one at work, rules that close a branch, and what no rule says.
 use mathlib.Core.Path.{_≡_, refl}
 use mathlib.Core.List.{List, [], _∷_, map}
