@@ -29,7 +29,7 @@ fn not_text(input: &[u8]) -> bool {
 fn encode(text: &[u8]) -> Result<Vec<u8>, String> {
     if not_text(text) {
         return Err("these are bytes, not text (UTF-8): target/bin/listing < FILE lists a problem's \
-                    bytes, and `problem decode FILE` writes its text"
+                    bytes, and target/tools/debug/problem decode FILE writes its text"
             .to_string());
     }
     Ok(bytes::write(&text::read(text)?))
@@ -41,7 +41,7 @@ fn decode(bytes: &[u8]) -> Result<Vec<u8>, String> {
             ""
         } else {
             "\nthis is text, not bytes: tools/list FILE lists a problem's text, and \
-             `problem encode FILE` writes its bytes"
+             target/tools/debug/problem encode FILE writes its bytes"
         };
         format!("question {question}: {why}{hint}")
     };
