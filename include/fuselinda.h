@@ -20,9 +20,10 @@ extern "C" {
  *   sets         a letter each, A to Z, strictly ascending
  *   constraints  a kind byte, then one-byte operands
  * Two bytes are one number: low byte first, two's complement.
- * Terms are numbered from 0: the constants, then the variables, then one witness (a number that is in one
- * of the two sets only) for each constraint of kind 6, in their order. Sets and constraints are numbered
- * from 0 too. An operand is the number of a term (t, u, i, j) or of a set (A, B, C), never of a witness.
+ * Terms are numbered from 0: the constants, then the variables, then one witness for each constraint of
+ * kind 6, in their order. A witness is a number that is in one of the two sets only. Sets and constraints
+ * are numbered from 0 too. An operand is the number of a term (t, u, i, j) or of a set (A, B, C), never of
+ * a witness.
  *
  *   kind  operands          meaning                                        rules in the trace
  *   1     t A               t is in A                                      1
@@ -85,7 +86,7 @@ uint64_t fuselinda_run(const uint8_t *problem, size_t problem_len, uint64_t budg
 /*
  * Checks an assignment that was worked by hand. Writes nothing.
  * The assignment's bytes: a count byte equal to the number of variables, and two bytes for the value of
- * each; then for each set a count byte and two bytes for each member, strictly ascending; nothing more.
+ * each. Then for each set a count byte and two bytes for each member, strictly ascending. Nothing more.
  * Values may be any from -32,768 to 32,767.
  */
 uint64_t fuselinda_check(const uint8_t *problem, size_t problem_len,

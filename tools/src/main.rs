@@ -20,22 +20,42 @@ fn usage() -> String {
     )
 }
 
+/// Whether this is no text. All bytes of problems have one below 9: the 0 of no constraints, a kind,
+/// or the set's number after a kind from 9 to 12.
+fn not_text(input: &[u8]) -> bool {
+    input.iter().any(|&byte| byte < 9)
+}
+
 fn encode(text: &[u8]) -> Result<Vec<u8>, String> {
+    if not_text(text) {
+        return Err("these are bytes, not text (UTF-8): target/bin/listing < FILE lists a problem's \
+                    bytes, and target/tools/debug/problem decode FILE writes its text"
+            .to_string());
+    }
     Ok(bytes::write(&text::read(text)?))
 }
 
 fn decode(bytes: &[u8]) -> Result<Vec<u8>, String> {
-    let problem =
-        bytes::read(bytes).map_err(|(question, why)| format!("question {question}: {why}"))?;
-    Ok(problem.to_string().into_bytes())
+    let refused = |(question, why): bytes::Refusal| {
+        let hint = if bytes.is_empty() || not_text(bytes) {
+            ""
+        } else {
+            "\nthis is text, not bytes: tools/list FILE lists a problem's text, and \
+             target/tools/debug/problem encode FILE writes its bytes"
+        };
+        format!("question {question}: {why}{hint}")
+    };
+    Ok(bytes::read(bytes).map_err(refused)?.to_string().into_bytes())
 }
 
-fn read_input(file: Option<&OsString>) -> std::io::Result<Vec<u8>> {
+fn read_input(file: Option<&OsString>) -> Result<Vec<u8>, String> {
     let mut input = Vec::new();
-    match file {
-        Some(name) => File::open(name)?.read_to_end(&mut input)?,
-        None => stdin().read_to_end(&mut input)?,
+    let read = match file {
+        Some(name) => File::open(name).and_then(|mut file| file.read_to_end(&mut input)),
+        None => stdin().read_to_end(&mut input),
     };
+    let name = file.map_or("standard input".into(), |name| name.to_string_lossy());
+    read.map_err(|error| format!("cannot read {name}: {error}"))?;
     Ok(input)
 }
 
@@ -50,8 +70,7 @@ fn run(arguments: &[OsString]) -> Result<(), String> {
         Some("decode") => decode,
         _ => return Err(usage()),
     };
-    let input = read_input(file).map_err(|error| format!("cannot read: {error}"))?;
-    let output = turn(&input)?;
+    let output = turn(&read_input(file)?)?;
     let mut out = stdout();
     let written = out.write_all(&output).and_then(|()| out.flush());
     written.map_err(|error| format!("cannot write: {error}"))

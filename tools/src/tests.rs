@@ -116,6 +116,28 @@ fn text_messages() {
     refused(b"x in A\nx \xFF A", "line 2: this is not UTF-8 text");
 }
 
+/// Bytes given as text and text given as bytes, whole or damaged: each is told where it can go.
+#[test]
+fn the_other_given() {
+    for bytes in [C1, "00 00 00 00", "02 03 00 04 00 01 78", "00 00 01 41 01 0C 00", "01"] {
+        refused(&hex(bytes), "these are bytes, not text (UTF-8): target/bin/listing < FILE ");
+    }
+    // As text it would be a comment.
+    let constants = (35..45).flat_map(|n| [n, 0]);
+    let comment: Vec<u8> = [10].into_iter().chain(constants).chain([0, 0, 0]).collect();
+    decoded(&comment);
+    refused(&comment, "these are bytes, not text");
+
+    for text in ["x in A\n", "# C1\nx in A\nA = [3, 4]\nx != 3\n", "\tA = {}"] {
+        let why = decode(text.as_bytes()).unwrap_err();
+        assert!(why.contains("\nthis is text, not bytes: tools/list FILE "), "{why}");
+    }
+    for bytes in ["", "02 03 00 04 00 01 78"] {
+        let why = decode(&hex(bytes)).unwrap_err();
+        assert!(why.starts_with("question 2: ") && !why.contains("text"), "{why}");
+    }
+}
+
 #[test]
 fn limit_messages() {
     for number in ["32001", "-32001", "40000", "99999999999999999999", "-99999999999999999999"] {
