@@ -32,7 +32,7 @@ needs (different t u) j k = false
 needs (relation r A B C) j k = any (λ (x : Literal). eqb (numberOf (operandOf (A .index) (B .index) (C .index)) x) k) (rowOf r j .premises)
 needs (negation r A B C w) j k = false
 needs (exactly A es) j k = eqb j 20 && eqb (A .index) k
-needs (interval A x y) j k = eqb j 20 && eqb (A .index) k
+needs (interval A x y es) j k = eqb j 20 && eqb (A .index) k
 
 -- rule j needs two facts of one class: a merge of two classes can make it apply
 abbrev pub pairs : Constraint → ℕ → Bool
@@ -43,7 +43,7 @@ pairs (different t u) j = true
 pairs (relation r A B C) j = ltb 1 (length (rowOf r j .premises))
 pairs (negation r A B C w) j = false
 pairs (exactly A es) j = false
-pairs (interval A x y) j = false
+pairs (interval A x y es) j = false
 
 -- What is prepared once a run, as bits. By constraint, its entries; by literal, at least the constraints that need it; then at least those that a merge can wake; a word of which nothing is said; and last, at least those that have a split.
 pub record WordsOf (ls : List Constraint) (words : List ℕ) : Type 0 where
