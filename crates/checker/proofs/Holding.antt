@@ -30,7 +30,6 @@ use Rattle.constraints.specs.declared.Constraint.the-variants.{Interval}
 use Rattle.constraints.specs.declared.Negation as codeNegation
 use Rattle.constraints.specs.declared.Negation.the-variants.{Unequal}
 use Rattle.constraints.specs.Decoded.{decoded, negationOf, Unpacked}
-use Rattle.places.specs.Places.{entriesOf}
 use Rattle.handed.specs.declared.Layout.{Layout}
 use Rattle.handed.specs.Laid.{membersAt}
 use Rattle.checker.specs.Tested.{numberOf, seen, Readable, entriesIn, Fitting, failing}

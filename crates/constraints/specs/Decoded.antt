@@ -26,7 +26,7 @@ relationOf Intersection = relations.intersection
 abbrev pub negationOf : Negation → relations.Negation
 negationOf Unequal = relations.unequal
 
--- es are the entries of a list or of an interval, which stay where they are lent
+-- es are the entries of a list or an interval, which the code hands on beside it
 abbrev pub decoded : List Term → Constraint → calculus.Constraint
 decoded es (Member t A) = calculus.member (term (t .0)) (setVar (A .0))
 decoded es (Nonmember t A) = calculus.nonmember (term (t .0)) (setVar (A .0))

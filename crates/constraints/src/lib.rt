@@ -24,7 +24,7 @@ pub enum Negation {
     Unequal,
 }
 
-// A constraint with its operands; one of two sets repeats its first operand. The entries of a list or of an interval stay where they are lent.
+// A constraint with its operands; one of two sets repeats its first operand. The entries of a list or an interval are handed on beside it (`list_at`).
 pub enum Constraint {
     Member(Term, SetVar),
     Nonmember(Term, SetVar),

@@ -24,8 +24,7 @@ use Rattle.branch.specs.Held.{held, restrict, resultOf, Sound}
 use Rattle.branch.proofs.Laws.{refusing}
 use Rattle.branch.proofs.Roots.{root-is}
 use Rattle.constraints.specs.declared.Constraint.{Constraint as Coded}
-use Rattle.constraints.specs.declared.Constraint.the-variants.{Member, Nonmember, Same as Equated, Different, Related, Negated, Exactly, Interval}
-use Rattle.constraints.specs.Decoded.{decoded, Unpacked}
+use Rattle.constraints.specs.Decoded.{decoded, Handled, Unpacked}
 use Rattle.places.specs.Places.{InSpan, splitSpan, entriesOf}
 use Rattle.places.specs.Alternatives.{slotsOf, childOf}
 use Rattle.places.proofs.Slots.{children-slots}
@@ -96,16 +95,9 @@ unpacked-same {es = es} {fs = fs} u v =
     let w : map term es ≡ map term fs = sym (u .handled .entries-are) ∙ ap entriesOf (sym (u .is) ∙ v .is) ∙ v .handled .entries-are in
     sym (indices es) ∙ ap (map (λ (t : Term). t .index)) w ∙ indices fs
 
--- the list that a constraint is decoded with is its own
-pub own-list : (ts : List Term) (l : Coded) → decoded ts l ≡ decoded (entriesOf (decoded ts l)) l
-own-list ts (Member t A) = refl
-own-list ts (Nonmember t A) = refl
-own-list ts (Equated t u) = refl
-own-list ts (Different t u) = refl
-own-list ts (Related k A B C) = refl
-own-list ts (Negated k A B C w) = refl
-own-list ts (Exactly A) = refl
-own-list ts (Interval A i j) = refl
+-- the entries that a constraint is decoded with are its own
+own-entries : {es : List ℕ} {l : Coded} → Handled es l → decoded (map term es) l ≡ decoded (entriesOf (decoded (map term es) l)) l
+own-entries {l = l} h = ap (λ (ts : List Term). decoded ts l) (sym (h .entries-are))
 
 module _ {bs : List ℕ} {tab : Table} {b : Branch} {r : Found} {q : ℕ} {es : List ℕ} (s : Taking bs tab true b r q es) where
   at-root : q ≡ r .root .0
@@ -116,7 +108,7 @@ module _ {bs : List ℕ} {tab : Table} {b : Branch} {r : Found} {q : ℕ} {es : 
 
   -- the constraint as `list_at` wants it
   pub decodes : constraintOf bs (r .number) ≡ decoded (entriesOf (constraintOf bs (r .number))) (r .constraint)
-  decodes = rw (s .unpacked .is) (own-list (map term es) (r .constraint))
+  decodes = rw (s .unpacked .is) (own-entries (s .unpacked .handled))
 
 -- with other entries of the same constraint
 pub relisted : {bs : List ℕ} {tab : Table} {b : Branch} {r : Found} {q : ℕ} {es fs : List ℕ} → Taking bs tab true b r q es → Unpacked bs (r .number) fs (r .constraint) → Taking bs tab true b r q fs
@@ -152,7 +144,7 @@ split-taking o w u = record { opened = o; sound = w .ready .sound; settled = λ 
 
 pub split-decodes : {bs : List ℕ} {tab : Table} {b : Branch} {s : Split} → Splits bs tab b s → constraintOf bs (s .found .number) ≡ decoded (entriesOf (constraintOf bs (s .found .number))) (s .found .constraint)
 unfolding constraintOf
-split-decodes {s = s} w = rw (w .located .opened) (own-list (map term (w .located .entries)) (s .found .constraint))
+split-decodes {s = s} w = rw (w .located .opened) (own-entries (w .located .handled))
 
 -- ---- a branch that propagation has settled
 

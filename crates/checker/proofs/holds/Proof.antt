@@ -2,11 +2,9 @@
 use borrow.Author.Needs.{needs}
 use mathlib.Core.Path.{ap, _∙_}
 use mathlib.Core.Bool.{not}
-use Rattle.calculus.specs.Terms.{setVar}
 use Rattle.calculus.specs.Relations.{denies}
 use Rattle.calculus.specs.Reading.{words}
 use Rattle.constraints.specs.Decoded.{relationOf, negationOf}
-use Rattle.checker.specs.Tested.{seen}
 use Rattle.checker.proofs.Holding.{same-set, readable, members-in, named, known-test, entries-readable, interval-entries, member-test, same-test, relates-test, negated-relates, exactly-test}
 use Rattle.checker.proofs.holds.Statement.{statement}
 use Rattle.checker.proofs.holds.Tie as tie
