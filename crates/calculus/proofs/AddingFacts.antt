@@ -10,7 +10,7 @@ use Rattle.calculus.specs.Terms.{Term, SetVar, term}
 use Rattle.calculus.specs.Lists.{imp, all, any, keep, upFrom, Each, gather}
 use Rattle.calculus.specs.Relations.{Rule, applies, propagation, choice, sound, adds, mapRule, Relation, holdsAt, Operand, Literal, propagationRows, splitRows, negationRow, Negation, unequal, denies, litKnown, rows, operandOf}
 use Rattle.calculus.specs.Relations as R
-use Rattle.calculus.specs.Meaning.{Constraint, member, nonmember, same, different, relation, negation, exactly, interval, entries}
+use Rattle.calculus.specs.Meaning.{Constraint, member, nonmember, same, different, relation, negation, exactly, interval}
 use Rattle.calculus.specs.Branch.{Branch, rootAt, root, inside, outside, Fact, In, Out, Same, known}
 use Rattle.calculus.specs.Search.{Move, factOf, at, over, distinct, listing, choose, choosing, propagations, splits, rootsOf}
 use Rattle.calculus.specs.Invariants.{ConstraintIn}
@@ -118,7 +118,7 @@ module _ (n : ℕ) (k : List Term) (m : ℕ) (b : Branch) (F : WellFormed n k b)
     propagations-tame (relation K A B C) r = over-tame A B C (propagationRows K) (λ h. Each-left (λ r. h .index < n → Tame (at h (operandOf A B C) r)) (propagationRows K) (splitRows K) (rows-tame (rows K) (λ i o. rows-add i o K) A B C r h))
     propagations-tame (negation K A B C w) r = tt
     propagations-tame (exactly A es) r = listing-tame A es (r .0) (r .1)
-    propagations-tame (interval A i j) r = listing-tame A (entries i j) (r .0) (r .1)
+    propagations-tame (interval A i j es) r = listing-tame A es (r .0) (r .1)
 
     pub splits-tame : (l : Constraint) → ConstraintIn n m l → Each (λ (p : Term × Move). Tame (p .1)) (splits hs b l)
     splits-tame (member t A) r = tt
@@ -128,4 +128,4 @@ module _ (n : ℕ) (k : List Term) (m : ℕ) (b : Branch) (F : WellFormed n k b)
     splits-tame (relation K A B C) r = over-tame A B C (splitRows K) (λ h. Each-right (λ r. h .index < n → Tame (at h (operandOf A B C) r)) (propagationRows K) (splitRows K) (rows-tame (rows K) (λ i o. rows-add i o K) A B C r h))
     splits-tame (negation K A B C w) r = (rows-tame (negationRow K ∷ []) (λ i o. negation-add i o K) A B C (r .0) w .0 (r .1), tt)
     splits-tame (exactly A es) r = choosing-tame A es (r .1)
-    splits-tame (interval A i j) r = choosing-tame A (entries i j) (r .1)
+    splits-tame (interval A i j es) r = choosing-tame A es (r .1)

@@ -11,7 +11,7 @@ use lib.IntN.{ℤ, pos}
 use Rattle.calculus.specs.Terms.{Term, SetVar, term}
 use Rattle.calculus.specs.Lists.{all, Each}
 use Rattle.calculus.specs.Relations.{Relation, holdsAt, Negation, unequal, denies}
-use Rattle.calculus.specs.Meaning.{Constraint, member, nonmember, same, different, relation, negation, exactly, interval, entries, _∈_, Valuation, Relates, Holds}
+use Rattle.calculus.specs.Meaning.{Constraint, member, nonmember, same, different, relation, negation, exactly, interval, _∈_, Valuation, Relates, Holds}
 use Rattle.calculus.specs.Check.{has, relates?, exactly?, holds?, lowest}
 use Rattle.calculus.specs.Problem.{Problem, Valid}
 use Rattle.calculus.proofs.ConstraintLaws.{InScope}
@@ -19,7 +19,7 @@ use Rattle.calculus.proofs.Bools.{and-l, and-r, and-i, clash, test, eac
 use Rattle.calculus.proofs.Tables.{relation-none}
 use Rattle.calculus.proofs.Truth.{eqZ, Reflects, is, isnt, reflects, eqZ-eq, eq-eqZ, has-in, in-has, relates-test, test-relates}
 use Rattle.calculus.proofs.RuleLaws.{Lists, Good}
-use Rattle.calculus.proofs.ConstraintLaws.{all-in, interval-to, interval-from, images-in}
+use Rattle.calculus.proofs.ConstraintLaws.{all-in, interval-lists, images-in}
 
 -- a test that is true exactly where the statement is
 by-test : {P : Type 0} (b : Bool) → (b ≡ true → P) → (P → b ≡ true) → Reflects P b
@@ -77,8 +77,8 @@ module _ (prob : Problem) (acc : Valid prob) (v : Valuation) (own : (p : ℕ) �
   holds-is (relation k A B C) a = relates-is k (v .members A) (v .members B) (v .members C)
   holds-is (negation k A B C w) a = flip (relates-is (denies k) (v .members A) (v .members B) (v .members C))
   holds-is (exactly A es) a = lists-is v A es
-  holds-is (interval A i j) a = go (lists-is v A (entries i j))
+  holds-is (interval A i j es) a = go (lists-is v A es)
     where
-      go : {b : Bool} → Reflects (Lists v A (entries i j)) b → Reflects (Holds v (interval A i j)) b
-      go (is g) = is (λ x. (λ m. interval-from prob acc v own i j (a .1) (a .2) (a .3) x (g x .0 m), λ m. g x .1 (interval-to prob acc v own i j (a .1) (a .2) (a .3) x m)))
-      go (isnt n) = isnt (λ h. n (λ x. (λ m. interval-to prob acc v own i j (a .1) (a .2) (a .3) x (h x .0 m), λ m. h x .1 (interval-from prob acc v own i j (a .1) (a .2) (a .3) x m))))
+      go : {b : Bool} → Reflects (Lists v A es) b → Reflects (Holds v (interval A i j es)) b
+      go (is g) = is (interval-lists prob acc v own A i j es a .1 g)
+      go (isnt n) = isnt (λ h. n (interval-lists prob acc v own A i j es a .0 h))

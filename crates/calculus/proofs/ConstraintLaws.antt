@@ -15,8 +15,8 @@ use borrow.Author.Tests.{eqb-true, eq-eqb, ne-eqb, lt-ltb, le-ltb}
 use Rattle.calculus.specs.Terms.{Term, SetVar, term, termsFrom}
 use Rattle.calculus.specs.Lists.{all, any, upFrom, Each}
 use Rattle.calculus.specs.Relations.{Relation, holdsAt, Negation, unequal, denies}
-use Rattle.calculus.specs.Meaning.{Constraint, member, nonmember, same, different, relation, negation, exactly, interval, entries, _∈_, Valuation, Relates, Holds}
-use Rattle.calculus.specs.Problem.{setCount, Problem, nameable, termCount, Assignment, valueOf, values, Satisfies, constantTerms, Rising, Refers, uses, Tied, Numbered, Valid}
+use Rattle.calculus.specs.Meaning.{Constraint, member, nonmember, same, different, relation, negation, exactly, interval, _∈_, Valuation, Relates, Holds}
+use Rattle.calculus.specs.Problem.{setCount, Problem, nameable, termCount, Assignment, valueOf, values, Satisfies, constantTerms, Rising, entries, Refers, uses, Tied, Numbered, Valid}
 use Rattle.calculus.specs.Invariants.{ConstraintIn}
 use Rattle.calculus.proofs.Bools.{and-l, and-r, and-i, or-cases, clash, test, each-all, all-each, Each-imp, Each-zip}
 use Rattle.calculus.proofs.Tables.{relation-none}
@@ -101,7 +101,7 @@ module _ (prob : Problem) (v w : Valuation) (nums : (t : Term) → t .index < na
   meaning-same (relation k A B C) a = λ i. Relates k (sets A (a .0) i) (sets B (a .1) i) (sets C (a .2) i)
   meaning-same (negation k A B C u) a = λ i. ¬ Relates (denies k) (sets A (a .0) i) (sets B (a .1) i) (sets C (subst (λ (X : SetVar). X .index < setCount prob) (sym (a .2)) (a .0)) i)
   meaning-same (exactly A es) a = λ i. (x : ℤ) → x ∈ sets A (a .0) i ↔ x ∈ images-same es (a .1) i
-  meaning-same (interval A j k) a = λ i. (x : ℤ) → x ∈ sets A (a .0) i ↔ ((nums j (omega (arith, a .1)) i ≤ℤ x) × (x ≤ℤ nums k (omega (arith, a .2)) i))
+  meaning-same (interval A j k es) a = λ i. (x : ℤ) → x ∈ sets A (a .0) i ↔ ((nums j (omega (arith, a .1)) i ≤ℤ x) × (x ≤ℤ nums k (omega (arith, a .2)) i))
 
   pub holds-same : (l : Constraint) → InScope prob l → Holds v l → Holds w l
   holds-same l a h = subst (λ (X : Type 0). X) (meaning-same l a) h
@@ -123,7 +123,7 @@ module _ (prob : Problem) (acc : Valid prob) where
   constraint-in (relation k A B C) w a e q = (a .0, a .1, a .2)
   constraint-in (negation k A B C u) w a e q = ((a .0, a .1, subst (λ (X : SetVar). X .index < setCount prob) (sym (a .2)) (a .0)), omega arith)
   constraint-in (exactly A es) w a e q = (a .0, Each-imp (λ t. t .index < nameable prob) (λ t. t .index < termCount prob) es (λ t l. wide (t .index) l) (a .1))
-  constraint-in (interval A i j) w a e q = (a .0, terms-each (λ t. t .index < termCount prob) (i .index) (suc (j .index) - (i .index)) (λ t l h. omega (arith, a .1, a .2)))
+  constraint-in (interval A i j es) w a e q = (a .0, rw (a .4) (terms-each (λ t. t .index < termCount prob) (i .index) (suc (j .index) - (i .index)) (λ t l h. omega (arith, a .1, a .2))))
 
   constraints-in′ : (ls : List Constraint) (w : ℕ) → Each (InScope prob) ls → Numbered w (termCount prob) ls → Each (ConstraintIn (termCount prob) (setCount prob)) ls
   constraints-in′ [] w a e = tt
@@ -140,7 +140,7 @@ module _ (prob : Problem) (acc : Valid prob) where
 
     -- an interval is its entries
     module _ (i j : Term) (li : i .index < K) (lj : j .index < K) (fill : (x : ℤ) → getD (prob .constants) (i .index) (pos 0) ≤ℤ x → x ≤ℤ getD (prob .constants) (j .index) (pos 0) → x ∈ prob .constants) where
-      pub interval-to : (x : ℤ) → (v .num i ≤ℤ x) × (x ≤ℤ v .num j) → x ∈ map (v .num) (entries i j)
+      interval-to : (x : ℤ) → (v .num i ≤ℤ x) × (x ≤ℤ v .num j) → x ∈ map (v .num) (entries i j)
       interval-to x h =
           let a : getD (prob .constants) (i .index) (pos 0) ≤ℤ x = rw (own (i .index) li) at (h .0) in
           let b : x ≤ℤ getD (prob .constants) (j .index) (pos 0) = rw (own (j .index) lj) at (h .1) in
@@ -151,7 +151,7 @@ module _ (prob : Problem) (acc : Valid prob) where
           subst (λ (y : ℤ). y ∈ map (v .num) (entries i j)) (own p (r .1) ∙ sym (r .2))
           (terms-at (λ t. v .num t ∈ map (v .num) (entries i j)) (i .index) (suc (j .index) - i .index) (image-of (v .num) (entries i j)) p lo (omega arith))
 
-      pub interval-from : (x : ℤ) → x ∈ map (v .num) (entries i j) → (v .num i ≤ℤ x) × (x ≤ℤ v .num j)
+      interval-from : (x : ℤ) → x ∈ map (v .num) (entries i j) → (v .num i ≤ℤ x) × (x ≤ℤ v .num j)
       interval-from x m =
           let r = from-image (λ t. (i .index ≤ t .index) × (t .index < suc (j .index))) (v .num) (entries i j) x (terms-each (λ t. (i .index ≤ t .index) × (t .index < suc (j .index))) (i .index) (suc (j .index) - i .index) (λ t l h. (l, omega arith))) m in
           let p : ℕ = r .0 .index in
@@ -159,6 +159,12 @@ module _ (prob : Problem) (acc : Valid prob) where
           let pk : p < K = omega arith in
           let e : x ≡ getD (prob .constants) p (pos 0) = r .2 ∙ own p pk in
           (rw (own (i .index) li, e) (rising-le (prob .constants) (acc .rising) (i .index) p (r .1 .0) pk), rw (own (j .index) lj, e) (rising-le (prob .constants) (acc .rising) p (j .index) pj lj))
+
+    pub interval-lists : (A : SetVar) (i j : Term) (es : List Term) → InScope prob (interval A i j es) → Holds v (interval A i j es) ↔ Lists v A es
+    interval-lists A i j es a = rw (a .4) (
+      (λ h x. (λ m. interval-to i j (a .1) (a .2) (a .3) x (h x .0 m), λ m. h x .1 (interval-from i j (a .1) (a .2) (a .3) x m))),
+      λ g x. (λ m. interval-from i j (a .1) (a .2) (a .3) x (g x .0 m), λ m. g x .1 (interval-to i j (a .1) (a .2) (a .3) x m)),
+    )
 
     -- what the rules use is what the constraints say
     pub good-holds : (l : Constraint) → InScope prob l → Good v l → Holds v l
@@ -169,10 +175,7 @@ module _ (prob : Problem) (acc : Valid prob) where
     good-holds (relation k A B C) a g = g
     good-holds (negation k A B C w) a g = λ h. clash (relates-test (denies k) (v .members A) (v .members B) (v .members C) h (v .num w)) g
     good-holds (exactly A es) a g = g
-    good-holds (interval A i j) a g = λ x. (λ m. interval-from i j (a .1) (a .2) (a .3) x (g x .0 m), λ m. g x .1 (interval-to i j (a .1) (a .2) (a .3) x m))
-
-    interval-good : (A : SetVar) (i j : Term) → InScope prob (interval A i j) → Holds v (interval A i j) → Good v (interval A i j)
-    interval-good A i j a h x = (λ m. interval-to i j (a .1) (a .2) (a .3) x (h x .0 m), λ m. h x .1 (interval-from i j (a .1) (a .2) (a .3) x m))
+    good-holds (interval A i j es) a g = interval-lists A i j es a .1 g
 
   -- ---- witnesses
 
@@ -196,7 +199,7 @@ module _ (prob : Problem) (acc : Valid prob) where
     Broken f (relation k A B C) = Unit {0}
     Broken f (negation k A B C w) = (nameable prob ≤ w .index) × (holdsAt (denies k) (has (g .members A) (f w)) (has (g .members B) (f w)) (has (g .members C) (f w)) ≡ false)
     Broken f (exactly A es) = Unit {0}
-    Broken f (interval A i j) = Unit {0}
+    Broken f (interval A i j es) = Unit {0}
 
     -- a change below the first witness changes nothing
     broken-at : (e f : Term → ℤ) (w : ℕ) → ((u : ℕ) → w ≤ u → e (term u) ≡ f (term u)) → (l : Constraint) → Tied w l → Broken e l → Broken f l
@@ -207,7 +210,7 @@ module _ (prob : Problem) (acc : Valid prob) where
     broken-at e f w h (relation k A B C) q b = tt
     broken-at e f w h (negation k A B C u) q b = (b .0, subst (λ (x : ℤ). holdsAt (denies k) (has (g .members A) x) (has (g .members B) x) (has (g .members C) x) ≡ false) (h (u .index) (omega arith)) (b .1))
     broken-at e f w h (exactly A es) q b = tt
-    broken-at e f w h (interval A i j) q b = tt
+    broken-at e f w h (interval A i j es) q b = tt
 
     broken-later : (e f : Term → ℤ) (ls : List Constraint) (w last : ℕ) → Numbered w last ls → ((u : ℕ) → w ≤ u → e (term u) ≡ f (term u)) → Each (Broken e) ls → Each (Broken f) ls
     broken-later e f [] w last q h b = tt
@@ -226,7 +229,7 @@ module _ (prob : Problem) (acc : Valid prob) where
         let eu : z .0 ≡ e u = rw (eq-eqb (u .index) w q) in
         (e, (omega arith, subst (λ (x : ℤ). holdsAt (denies k) (has (g .members A) x) (has (g .members B) x) (has (g .members C) x) ≡ false) eu (z .1)), λ x n. rw (ne-eqb x w (omega arith)))
     choose-at v f w m (exactly A es) q h = (f, tt, λ u _. refl)
-    choose-at v f w m (interval A i j) q h = (f, tt, λ u _. refl)
+    choose-at v f w m (interval A i j es) q h = (f, tt, λ u _. refl)
 
     chosen : (v : Term → ℤ) (ls : List Constraint) (w last : ℕ) → nameable prob ≤ w → Numbered w last ls → Each (Holds (values prob g v)) ls → (f : Term → ℤ) × Each (Broken f) ls
     chosen v [] w last m q h = (v, tt)
@@ -247,7 +250,7 @@ module _ (prob : Problem) (acc : Valid prob) where
     broken-good f (relation k A B C) a h = h .1
     broken-good f (negation k A B C w) a h = rw (num-witness f (w .index) (h .0 .0)) (h .0 .1)
     broken-good f (exactly A es) a h = h .1
-    broken-good f (interval A i j) a h = interval-good (values prob g f) (own f) A i j a (h .1)
+    broken-good f (interval A i j es) a h = interval-lists (values prob g f) (own f) A i j es a .0 (h .1)
 
     -- a solution, with numbers for the witnesses
     pub witnessed : Satisfies prob g → (f : Term → ℤ) × Each (Holds (values prob g f)) (prob .constraints) × Each (Good (values prob g f)) (prob .constraints)

@@ -12,7 +12,7 @@ use Rattle.calculus.specs.Lists.{all, Each, gather}
 use Rattle.calculus.specs.Terms.{Term, SetVar, term, setVar}
 use Rattle.calculus.specs.Relations.{Relation, equal, union, disjoint, subset, intersection, unequal}
 use Rattle.calculus.specs.Meaning.{Constraint, member, nonmember, same, different, relation, negation, exactly, interval}
-use Rattle.calculus.specs.Problem.{Rising, Refers, uses, Tied, Numbered}
+use Rattle.calculus.specs.Problem.{Rising, entries, Refers, uses, Tied, Numbered}
 use Rattle.calculus.specs.Encoding.{encodeConstraint}
 use Rattle.calculus.specs.Reading.{parsed, gapless, Parser, refuse, two, three, ofList, ofInterval, kinds, constraint, constraints}
 use Rattle.calculus.proofs.Bools.{and-l, and-r, and-i, each-all, all-each, Each-imp, Each-map}
@@ -43,7 +43,7 @@ module _ (cs : List ℤ) (N S : ℕ) where
   list-reads = and-then _ byte-reads (λ A. and-then _ byte-reads (λ n. and-then _ (bytes-read n) (λ es. asks 8 _ (omega arith, omega arith) (λ _. gives _))))
 
   abbrev Spanned : Form
-  Spanned = Then OneByte (λ A. Then OneByte (λ i. Then OneByte (λ j. Asked (ltb A S && ltb i N && ltb j N) (Asked (ltb i (length cs) && ltb j (length cs) && gapless cs i j) (Given (interval (setVar A) (term i) (term j)))))))
+  Spanned = Then OneByte (λ A. Then OneByte (λ i. Then OneByte (λ j. Asked (ltb A S && ltb i N && ltb j N) (Asked (ltb i (length cs) && ltb j (length cs) && gapless cs i j) (Given (interval (setVar A) (term i) (term j) (entries (term i) (term j))))))))
 
   interval-reads : Recognizes pair Spanned (ofInterval cs N S)
   interval-reads = and-then _ byte-reads (λ A. and-then _ byte-reads (λ i. and-then _ byte-reads (λ j. asks 8 _ (omega arith, omega arith) (λ _. asks 9 _ (omega arith, omega arith) (λ _. gives _)))))
@@ -99,7 +99,7 @@ module _ (cs : List ℤ) (N S : ℕ) (up : Rising cs) (known : length cs ≤ N) 
           let h = and-l (ltb i (length cs) && ltb j (length cs)) (gapless cs i j) g in
           let li : i < length cs = ltb-true i (length cs) (and-l (ltb i (length cs)) (ltb j (length cs)) h) in
           let lj : j < length cs = ltb-true j (length cs) (and-r (ltb i (length cs)) (ltb j (length cs)) h) in
-          (refl, (ltb-true A S (and-l (ltb A S) (ltb i N) (and-l (ltb A S && ltb i N) (ltb j N) e)), li, lj, gapless-fills cs up i j li lj (and-r (ltb i (length cs) && ltb j (length cs)) (gapless cs i j) g)), tt)
+          (refl, (ltb-true A S (and-l (ltb A S) (ltb i N) (and-l (ltb A S && ltb i N) (ltb j N) e)), li, lj, gapless-fills cs up i j li lj (and-r (ltb i (length cs) && ltb j (length cs)) (gapless cs i j) g), refl), tt)
 
   no-kind : (k : ℕ) → Kind k Never (refuse 7)
   no-kind k = (record { reads = λ l u rest n. absurd n; wrote = λ bs c e. no-answer e; cut = λ l u j n. absurd n; numbers = λ bs n e. let z : 7 ≡ n = cc in (omega arith, omega arith) }, λ l v n. absurd n)
@@ -196,7 +196,7 @@ module _ (cs : List ℤ) (N S : ℕ) (up : Rising cs) (known : length cs ≤ N) 
         subst (λ (l : List Term). Listed cs N S (exactly A l) (A .index ∷ length es ∷ (xs ++ []))) (term-index es)
             (then (one {b = A .index}) (then (one {b = length es}) (then (counted {xs = xs} (length-map es (λ (e : Term). e .index))) (answered (and-i (lt-ltb (A .index) S (r .0)) t) given)))),
       )
-  formed (interval A i j) r q = (
+  formed (interval A i j es) r q = subst (λ (l : List Term). Formed (interval A i j l)) (sym (r .4)) (
     12,
     A .index ∷ i .index ∷ j .index ∷ [],
     refl,

@@ -11,7 +11,7 @@ use lib.Dec.{eqb}
 use borrow.Author.Tests.{eqb-true, eq-eqb}
 use Rattle.calculus.specs.Terms.{Term, SetVar}
 use Rattle.calculus.specs.Lists.{bit, upFrom, first, Each, Some, here, there, gather}
-use Rattle.calculus.specs.Meaning.{Constraint, member, nonmember, same, different, relation, negation, exactly, interval, entries, Valuation}
+use Rattle.calculus.specs.Meaning.{Constraint, member, nonmember, same, different, relation, negation, exactly, interval, Valuation}
 use Rattle.calculus.specs.Relations.{Rule, Literal, Operand, propagationRows, splitRows, operandOf}
 use Rattle.calculus.specs.Branch.{Branch, start, rootAt, inside, outside, Fact, In, Out, Same, known}
 use Rattle.calculus.specs.Search.{Move, over, propagations, splits, places, rootsOf, candidates, Candidate, Next, solved, step, next}
@@ -106,7 +106,7 @@ no-propagations m b (different t u) r = absurd (omega (arith, r .0))
 no-propagations m b (relation K A B C) r = no-over (operandOf A B C) (propagationRows K)
 no-propagations m b (negation K A B C w) r = refl
 no-propagations m b (exactly A es) r = rw (no-entry es (r .1))
-no-propagations m b (interval A i j) r = rw (no-entry (entries i j) (r .1))
+no-propagations m b (interval A i j es) r = rw (no-entry es (r .1))
 
 no-splits : (m : ℕ) (b : Branch) (l : Constraint) → ConstraintIn 0 m l → splits [] b l ≡ []
 no-splits m b (member t A) r = refl
@@ -116,7 +116,7 @@ no-splits m b (different t u) r = refl
 no-splits m b (relation K A B C) r = no-over (operandOf A B C) (splitRows K)
 no-splits m b (negation K A B C w) r = absurd (omega (arith, r .1))
 no-splits m b (exactly A es) r = refl
-no-splits m b (interval A i j) r = refl
+no-splits m b (interval A i j es) r = refl
 
 no-candidates : (f : Constraint → List (Term × Move)) (i : ℕ) (ls : List Constraint) → Each (λ l. f l ≡ []) ls → candidates f i ls ≡ []
 no-candidates f i [] e = refl

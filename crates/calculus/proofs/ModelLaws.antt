@@ -12,7 +12,7 @@ use Rattle.calculus.specs.Terms.{Term, SetVar, term}
 use Rattle.calculus.specs.Lists.{imp, all, any, keep, upFrom, Each, gather}
 use Rattle.calculus.specs.Relations.{Rule, applies, propagation, choice, Relation, holdsAt, Operand, Literal, propagationRows, splitRows, negationRow, Negation, unequal, denies, litKnown, rows, operandOf}
 use Rattle.calculus.specs.Relations as R
-use Rattle.calculus.specs.Meaning.{Constraint, member, nonmember, same, different, relation, negation, exactly, interval, entries, _∈_, Valuation, Relates}
+use Rattle.calculus.specs.Meaning.{Constraint, member, nonmember, same, different, relation, negation, exactly, interval, _∈_, Valuation, Relates}
 use Rattle.calculus.specs.Branch.{Branch, rootAt, root, inside, outside, Fact, In, Out, Same, known}
 use Rattle.calculus.specs.Search.{Move, factOf, at, over, distinct, listing, choose, choosing, propagations, splits, rootsOf}
 use Rattle.calculus.specs.Invariants.{ConstraintIn}
@@ -165,4 +165,4 @@ module _ (val : Term → ℤ) where
         rw (has-term u A (r .1), has-term u B (r .1), has-term u C (r .1))
         (negation-full (λ p. known b (In u (operandOf A B C p))) (λ p. known b (Out u (operandOf A B C p))) (clean-at u (operandOf A B C)) K (at-idle u (operandOf A B C) (negationRow K) (s .0)))
     model-good m (exactly A es) r f s = exact A es (r .1) f s
-    model-good m (interval A i j) r f s = exact A (entries i j) (r .1) f s
+    model-good m (interval A i j es) r f s = exact A es (r .1) f s

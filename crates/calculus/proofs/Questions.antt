@@ -41,7 +41,7 @@ module _ (cs : List ℤ) (N S : ℕ) where
   retie w (relation k A B C) r = (relation k A B C, refl, r, tt, refl)
   retie w (negation unequal A B C u) r = (negation unequal A B C (term w), refl, r, refl, refl)
   retie w (exactly A es) r = (exactly A es, refl, r, tt, refl)
-  retie w (interval A i j) r = (interval A i j, refl, r, tt, refl)
+  retie w (interval A i j es) r = (interval A i j es, refl, r, tt, refl)
 
   renumber : (w : ℕ) (ls : List Constraint) → Each (Refers cs N S) ls → (ms : List Constraint) × (gather encodeConstraint ls ≡ gather encodeConstraint ms) × (length ms ≡ length ls) × Each (Refers cs N S) ms × Numbered w (w + witnessCount ls) ms
   renumber w [] r = ([], refl, refl, tt, omega arith)

@@ -14,7 +14,7 @@ use Rattle.calculus.proofs.AtNumber.{term-eqb}
 use Rattle.calculus.specs.Lists.{imp, all, any, keep, upFrom, Each, Some, here, there, gather, picked}
 use Rattle.calculus.specs.Relations.{Rule, applies, propagation, choice, sound, adds, mapRule, Relation, holdsAt, Operand, Literal, propagationRows, splitRows, negationRow, Negation, unequal, denies, litKnown, rows, operandOf}
 use Rattle.calculus.specs.Relations as R
-use Rattle.calculus.specs.Meaning.{Constraint, member, nonmember, same, different, relation, negation, exactly, interval, entries, _∈_, Valuation, Holds, Relates}
+use Rattle.calculus.specs.Meaning.{Constraint, member, nonmember, same, different, relation, negation, exactly, interval, _∈_, Valuation, Holds, Relates}
 use Rattle.calculus.specs.Branch.{Branch, rootAt, root, inside, outside, Fact, In, Out, Same, known}
 use Rattle.calculus.specs.Search.{Move, factOf, at, over, distinct, listing, choose, choosing, propagations, splits, rootsOf}
 use Rattle.calculus.proofs.Bools.{and-l, and-r, and-i, or-cases, or-l, or-r, or-none-l, imp-at, imp-i, clash, test, not-t, not-f, each-all, all-each, all-map, any-map, Each-app, Each-left, Each-right, Each-all, Each-imp, Each-map, Each-gather}
@@ -60,7 +60,7 @@ Good v (different t u) = ¬ (v .num t ≡ v .num u)
 Good v (relation k A B C) = Relates k (v .members A) (v .members B) (v .members C)
 Good v (negation k A B C w) = holdsAt (denies k) (has (v .members A) (v .num w)) (has (v .members B) (v .num w)) (has (v .members C) (v .num w)) ≡ false
 Good v (exactly A es) = Lists v A es
-Good v (interval A i j) = Lists v A (entries i j)
+Good v (interval A i j es) = Lists v A es
 
 -- ---- soundness
 
@@ -167,7 +167,7 @@ module _ (v : Valuation) where
       propagations-sound (relation k A B C) g = over-sound k A B C hs (propagationRows k) (λ h. Each-left (λ r. Sound (at h (operandOf A B C) r)) (propagationRows k) (splitRows k) (rows-each k A B C g h))
       propagations-sound (negation k A B C w) g = tt
       propagations-sound (exactly A es) g = listing-sound b hs A es g
-      propagations-sound (interval A i j) g = listing-sound b hs A (entries i j) g
+      propagations-sound (interval A i j es) g = listing-sound b hs A es g
 
       pub splits-sound : (l : Constraint) → Good v l → Each (λ (p : Term × Move). Sound (p .1)) (splits hs b l)
       splits-sound (member t A) g = tt
@@ -177,4 +177,4 @@ module _ (v : Valuation) where
       splits-sound (relation k A B C) g = over-sound k A B C hs (splitRows k) (λ h. Each-right (λ r. Sound (at h (operandOf A B C) r)) (propagationRows k) (splitRows k) (rows-each k A B C g h))
       splits-sound (negation k A B C w) g = (at-sound w (operandOf A B C) (negationRow k) (negation-sound k (λ p. has (v .members (operandOf A B C p)) (v .num w)) g), tt)
       splits-sound (exactly A es) g = choosing-sound hs A es g
-      splits-sound (interval A i j) g = choosing-sound hs A (entries i j) g
+      splits-sound (interval A i j es) g = choosing-sound hs A es g

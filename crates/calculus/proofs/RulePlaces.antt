@@ -11,10 +11,10 @@ use borrow.Author.Tests.{eqb-true, eq-eqb}
 use Rattle.calculus.specs.Lists.{keep, upFrom, Each}
 use Rattle.calculus.specs.Terms.{Term, SetVar, term}
 use Rattle.calculus.specs.Relations.{Rule, propagation, Relation, equal, union, disjoint, subset, intersection, unequal, Operand, Literal, propagationRows, splitRows, negationRow, operandOf}
-use Rattle.calculus.specs.Meaning.{Constraint, member, nonmember, same, different, relation, negation, exactly, interval, entries}
+use Rattle.calculus.specs.Meaning.{Constraint, member, nonmember, same, different, relation, negation, exactly, interval}
 use Rattle.calculus.specs.Branch.{Branch, rootAt, root, Fact, In, Out, Same}
 use Rattle.calculus.specs.Search.{Move, at, over, distinct, listing, choose, propagations, splits, rootsOf}
-use Rattle.calculus.specs.Order.{OneClass, Place, Root, Fires, rule1, rule2, rule3, rule4, rule5, rule6, rule7, rule8, rule9, rule10, rule11, rule12, rule13, rule14, rule15, rule16, rule17, rule18, rule19, rule20, rule19′, rule20′}
+use Rattle.calculus.specs.Order.{OneClass, Place, Root, Fires, rule1, rule2, rule3, rule4, rule5, rule6, rule7, rule8, rule9, rule10, rule11, rule12, rule13, rule14, rule15, rule16, rule17, rule18, rule19, rule20, by-list, by-interval}
 use Rattle.calculus.proofs.ChildrenLeft.{classes}
 use Rattle.calculus.proofs.Enumerating.{Where, candidate, Placed, before-rule, Enum, enum-nil, enum-join, Yes, Ready, Lists, lists-iff, Spot, Run, spots}
 
@@ -72,7 +72,7 @@ module _ (n : ℕ) (b : Branch) where
   Propagated (relation k A B C) = AtRows (operandOf A B C) (propagationRows k)
   Propagated (negation k A B C w) = λ _ _ _ _. ⊥
   Propagated (exactly A es) = Listing A es
-  Propagated (interval A i j) = Listing A (entries i j)
+  Propagated (interval A i j es) = Listing A es
 
   abbrev pub Split : Constraint → Where
   Split (member t A) = λ _ _ _ _. ⊥
@@ -82,7 +82,7 @@ module _ (n : ℕ) (b : Branch) where
   Split (relation k A B C) = AtRows (operandOf A B C) (splitRows k)
   Split (negation k A B C w) = Once (root b w) (at w (operandOf A B C) (negationRow k))
   Split (exactly A es) = Choosing A es
-  Split (interval A i j) = Choosing A (entries i j)
+  Split (interval A i j es) = Choosing A es
 
   -- ---- its moves list them
 
@@ -136,7 +136,7 @@ module _ (n : ℕ) (b : Branch) where
   lists-propagations i (relation k A B C) = at-rows i 0 (operandOf A B C) 0 (propagationRows k) (rising k .0)
   lists-propagations i (negation k A B C w) = none-at i 0
   lists-propagations i (exactly A es) = at-entries i 0 A es
-  lists-propagations i (interval A f l) = at-entries i 0 A (entries f l)
+  lists-propagations i (interval A f l es) = at-entries i 0 A es
 
   pub lists-splits : (i : ℕ) (l : Constraint) → Lists b i 1 (splits (rootsOf n b) b l) (Split l)
   lists-splits i (member t A) = none-at i 1
@@ -146,7 +146,7 @@ module _ (n : ℕ) (b : Branch) where
   lists-splits i (relation k A B C) = at-rows i 1 (operandOf A B C) 0 (splitRows k) (rising k .1)
   lists-splits i (negation k A B C w) = once i 1 (root b w) (at w (operandOf A B C) (negationRow k))
   lists-splits i (exactly A es) = at-roots i 1 20 (choose (rootsOf n b) b A es) (λ _. refl)
-  lists-splits i (interval A f l) = at-roots i 1 20 (choose (rootsOf n b) b A (entries f l)) (λ _. refl)
+  lists-splits i (interval A f l es) = at-roots i 1 20 (choose (rootsOf n b) b A es) (λ _. refl)
 
   -- ---- they are those of Fires
 
@@ -178,12 +178,12 @@ module _ (n : ℕ) (b : Branch) where
   fires-offered l L r s w gs (rule16 h x y) = inl (refl, inl (h, refl, refl, refl, ((x, tt), ((λ k. y (k .0)), tt))))
   fires-offered l L r s w gs (rule17 h x y) = inl (refl, inr (inl (h, refl, refl, refl, ((x, tt), ((λ k. y (k .0)), tt)))))
   fires-offered l L r s w gs (rule18 h x z y) = inl (refl, inr (inr (inl (h, refl, refl, refl, ((x, (z, tt)), ((λ k. y (k .0)), tt))))))
-  fires-offered l L r s w gs (rule19 p k x) = inl (refl, (k, refl, refl, refl, (tt, ((λ k. x (k .0)), tt))))
-  fires-offered l L r s w gs (rule19′ p k x) = inl (refl, (k, refl, refl, refl, (tt, ((λ k. x (k .0)), tt))))
+  fires-offered l L r s w gs (rule19 p by-list k x) = inl (refl, (k, refl, refl, refl, (tt, ((λ k. x (k .0)), tt))))
+  fires-offered l L r s w gs (rule19 p by-interval k x) = inl (refl, (k, refl, refl, refl, (tt, ((λ k. x (k .0)), tt))))
   fires-offered l L r s w gs (rule7 x y) = inr (refl, (refl, refl, refl, refl, (tt, ((λ k. x (k .0, k .1 .0)), ((λ k. y (k .0, k .1 .0)), tt)))))
   fires-offered l L r s w gs (rule12 h x p q u v) = inr (refl, inl (h, refl, refl, refl, ((x, tt), ((λ k. p (k .0)), ((λ k. q (k .0)), ((λ k. u (k .0)), ((λ k. v (k .0)), tt)))))))
-  fires-offered l L r s w gs (rule20 {es = es} {ds = ds} h x y o) = inr (refl, (h, refl, refl, ap (map (λ (e : Term). Same (term s) e ∷ [])) (sym (classes (map (root b) es) ds .0 o)), ((x, tt), position-each (term s) es y)))
-  fires-offered l L r s w gs (rule20′ {i = i} {j = j} {ds = ds} h x y o) = inr (refl, (h, refl, refl, ap (map (λ (e : Term). Same (term s) e ∷ [])) (sym (classes (map (root b) (entries i j)) ds .0 o)), ((x, tt), position-each (term s) (entries i j) y)))
+  fires-offered l L r s w gs (rule20 {es = es} {ds = ds} by-list h x y o) = inr (refl, (h, refl, refl, ap (map (λ (e : Term). Same (term s) e ∷ [])) (sym (classes (map (root b) es) ds .0 o)), ((x, tt), position-each (term s) es y)))
+  fires-offered l L r s w gs (rule20 {es = es} {ds = ds} by-interval h x y o) = inr (refl, (h, refl, refl, ap (map (λ (e : Term). Same (term s) e ∷ [])) (sym (classes (map (root b) es) ds .0 o)), ((x, tt), position-each (term s) es y)))
 
   -- and at what a constraint offers a rule fires
   module _ (l : Constraint) (L : ℕ) where
@@ -230,8 +230,8 @@ module _ (n : ℕ) (b : Branch) where
   propagated-fires (different t u) = once-fires (different t u) 0 (root b t) (record { rule = 4; premises = Same t u ∷ []; blockers = []; alternatives = [] }) (λ y. rule4 (y .0 .0))
   propagated-fires (relation k A B C) = rows-fire (relation k A B C) 0 (operandOf A B C) (propagationRows k) (propagation-rows k A B C)
   propagated-fires (negation k A B C w) = λ _ _ _ _ x. absurd x
-  propagated-fires (exactly A es) = spot-fires (exactly A es) 0 (λ p. p < length es) (λ p. inSet A (getD es p (term 0))) (λ p l y. rule19 p l (λ k. y .1 .0 (k, tt)))
-  propagated-fires (interval A i j) = spot-fires (interval A i j) 0 (λ p. p < length (entries i j)) (λ p. inSet A (getD (entries i j) p (term 0))) (λ p l y. rule19′ p l (λ k. y .1 .0 (k, tt)))
+  propagated-fires (exactly A es) = spot-fires (exactly A es) 0 (λ p. p < length es) (λ p. inSet A (getD es p (term 0))) (λ p l y. rule19 p by-list l (λ k. y .1 .0 (k, tt)))
+  propagated-fires (interval A i j es) = spot-fires (interval A i j es) 0 (λ p. p < length es) (λ p. inSet A (getD es p (term 0))) (λ p l y. rule19 p by-interval l (λ k. y .1 .0 (k, tt)))
 
   pub split-fires : (l : Constraint) (r s : ℕ) (w : Term) (gs : List (List Fact)) → Split l r s w gs → Fires n b l 1 r s w gs
   split-fires (member t A) = λ _ _ _ _ x. absurd x
@@ -240,8 +240,8 @@ module _ (n : ℕ) (b : Branch) where
   split-fires (different t u) = λ _ _ _ _ x. absurd x
   split-fires (relation k A B C) = rows-fire (relation k A B C) 1 (operandOf A B C) (splitRows k) (split-rows k A B C)
   split-fires (negation unequal A B C v) = once-fires (negation unequal A B C v) 1 (root b v) (at v (operandOf A B C) (negationRow unequal)) (λ y. rule7 (λ k. y .1 .0 (k .0, (k .1, tt))) (λ k. y .1 .1 .0 (k .0, (k .1, tt))))
-  split-fires (exactly A es) = spot-fires (exactly A es) 1 (Root n b) (λ h. (term h, choose (rootsOf n b) b A es (term h))) (λ h d y. rule20 d (y .0 .0) (each-position (term h) es (y .1)) (classes (map (root b) es) (distinct (map (root b) es)) .1 refl))
-  split-fires (interval A i j) = spot-fires (interval A i j) 1 (Root n b) (λ h. (term h, choose (rootsOf n b) b A (entries i j) (term h))) (λ h d y. rule20′ d (y .0 .0) (each-position (term h) (entries i j) (y .1)) (classes (map (root b) (entries i j)) (distinct (map (root b) (entries i j))) .1 refl))
+  split-fires (exactly A es) = spot-fires (exactly A es) 1 (Root n b) (λ h. (term h, choose (rootsOf n b) b A es (term h))) (λ h d y. rule20 by-list d (y .0 .0) (each-position (term h) es (y .1)) (classes (map (root b) es) (distinct (map (root b) es)) .1 refl))
+  split-fires (interval A i j es) = spot-fires (interval A i j es) 1 (Root n b) (λ h. (term h, choose (rootsOf n b) b A es (term h))) (λ h d y. rule20 by-interval d (y .0 .0) (each-position (term h) es (y .1)) (classes (map (root b) es) (distinct (map (root b) es)) .1 refl))
 
   -- a rule fires at a position in one way
   pub fires-one : (l : Constraint) (L r s : ℕ) (w v : Term) (gs hs : List (List Fact)) → Fires n b l L r s w gs → Fires n b l L r s v hs → (w ≡ v) × (gs ≡ hs)
@@ -263,7 +263,7 @@ module _ (n : ℕ) (b : Branch) where
   fires-one l L r s w v gs hs (rule18 _ _ _ _) (rule18 _ _ _ _) = (refl, refl)
   fires-one l L r s w v gs hs (rule7 _ _) (rule7 _ _) = (refl, refl)
   fires-one l L r s w v gs hs (rule12 _ _ _ _ _ _) (rule12 _ _ _ _ _ _) = (refl, refl)
-  fires-one l L r s w v gs hs (rule19 _ _ _) (rule19 _ _ _) = (refl, refl)
-  fires-one l L r s w v gs hs (rule19′ _ _ _) (rule19′ _ _ _) = (refl, refl)
-  fires-one l L r s w v gs hs (rule20 {es = es} {ds = ds} _ _ _ o) (rule20 {ds = fs} _ _ _ p) = (refl, ap (map (λ (e : Term). Same (term s) e ∷ [])) (sym (classes (map (root b) es) ds .0 o) ∙ classes (map (root b) es) fs .0 p))
-  fires-one l L r s w v gs hs (rule20′ {i = i} {j = j} {ds = ds} _ _ _ o) (rule20′ {ds = fs} _ _ _ p) = (refl, ap (map (λ (e : Term). Same (term s) e ∷ [])) (sym (classes (map (root b) (entries i j)) ds .0 o) ∙ classes (map (root b) (entries i j)) fs .0 p))
+  fires-one l L r s w v gs hs (rule19 _ by-list _ _) (rule19 _ by-list _ _) = (refl, refl)
+  fires-one l L r s w v gs hs (rule19 _ by-interval _ _) (rule19 _ by-interval _ _) = (refl, refl)
+  fires-one l L r s w v gs hs (rule20 {es = es} {ds = ds} by-list _ _ _ o) (rule20 {ds = fs} by-list _ _ _ p) = (refl, ap (map (λ (e : Term). Same (term s) e ∷ [])) (sym (classes (map (root b) es) ds .0 o) ∙ classes (map (root b) es) fs .0 p))
+  fires-one l L r s w v gs hs (rule20 {es = es} {ds = ds} by-interval _ _ _ o) (rule20 {ds = fs} by-interval _ _ _ p) = (refl, ap (map (λ (e : Term). Same (term s) e ∷ [])) (sym (classes (map (root b) es) ds .0 o) ∙ classes (map (root b) es) fs .0 p))

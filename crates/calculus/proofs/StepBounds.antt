@@ -10,7 +10,7 @@ use borrow.Author.Tests.{leb-true}
 use Rattle.calculus.specs.Lists.{all, Each, gather}
 use Rattle.calculus.specs.Terms.{Term, SetVar}
 use Rattle.calculus.specs.Relations.{Rule, propagation, Relation, equal, union, disjoint, subset, intersection, Negation, unequal, Operand, Literal, propagationRows, splitRows, negationRow, rows, operandOf}
-use Rattle.calculus.specs.Meaning.{Constraint, member, nonmember, same, different, relation, negation, exactly, interval, entries}
+use Rattle.calculus.specs.Meaning.{Constraint, member, nonmember, same, different, relation, negation, exactly, interval}
 use Rattle.calculus.specs.Branch.{Branch, rootAt, root, Fact, In, Out, Same, assertAll}
 use Rattle.calculus.specs.Search.{Move, factOf, at, over, distinct, listing, choose, choosing, propagations, splits, rootsOf, Candidate, candidates, places, Next, solved, step, children, next}
 use Rattle.calculus.specs.Invariants.{ConstraintIn}
@@ -81,7 +81,7 @@ module _ (n : ℕ) (k : List Term) (m : ℕ) (b : Branch) (F : WellFormed n k b)
   propagations-bounded (relation K A B C) r = over-bounded (operandOf A B C) (propagationRows K) (sized-rows (propagationRows K) (propagation-test K))
   propagations-bounded (negation K A B C w) r = tt
   propagations-bounded (exactly A es) r = listing-bounded A es (r .1)
-  propagations-bounded (interval A i j) r = listing-bounded A (entries i j) (r .1)
+  propagations-bounded (interval A i j es) r = listing-bounded A es (r .1)
 
   splits-bounded : (l : Constraint) → ConstraintIn n m l → Each Bounded (splits (rootsOf n b) b l)
   splits-bounded (member t A) r = tt
@@ -91,7 +91,7 @@ module _ (n : ℕ) (k : List Term) (m : ℕ) (b : Branch) (F : WellFormed n k b)
   splits-bounded (relation K A B C) r = over-bounded (operandOf A B C) (splitRows K) (sized-rows (splitRows K) (split-test K))
   splits-bounded (negation K A B C w) r = ((root-low w (r .1), at-bounded w (operandOf A B C) (negationRow K) (r .1) (negation-sized K) .1), tt)
   splits-bounded (exactly A es) r = choosing-bounded A es (r .1)
-  splits-bounded (interval A i j) r = choosing-bounded A (entries i j) (r .1)
+  splits-bounded (interval A i j es) r = choosing-bounded A es (r .1)
 
   abbrev Placed : ℕ → Candidate → Type 0
   Placed last p = (p .constraint < last) × Bounded (p .concerned, p .move)

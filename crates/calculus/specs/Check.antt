@@ -9,7 +9,7 @@ use lib.IntN.{ℤ, pos}
 use Rattle.calculus.specs.Lists.{all, any}
 use Rattle.calculus.specs.Terms.{Term, SetVar}
 use Rattle.calculus.specs.Relations.{Relation, holdsAt, denies}
-use Rattle.calculus.specs.Meaning.{Constraint, member, nonmember, same, different, relation, negation, exactly, interval, entries, Valuation}
+use Rattle.calculus.specs.Meaning.{Constraint, member, nonmember, same, different, relation, negation, exactly, interval, Valuation}
 use Rattle.calculus.specs.Problem.{Problem, setCount, Assignment}
 use Rattle.calculus.specs.Reading.{Parsed, parsed, refused, _>>=_, ask, words, ascending, eqZ}
 use Rattle.calculus.specs.Encoding.{Handed}
@@ -68,7 +68,7 @@ holds? v (different t u) = not (eqZ (v .num t) (v .num u))
 holds? v (relation k A B C) = relates? k (v .members A) (v .members B) (v .members C)
 holds? v (negation k A B C w) = not (relates? (denies k) (v .members A) (v .members B) (v .members C))
 holds? v (exactly A es) = exactly? v A es
-holds? v (interval A i j) = exactly? v A (entries i j)
+holds? v (interval A i j es) = exactly? v A es
 
 -- the lowest constraint that fails, counted from i
 abbrev pub lowest : Valuation → ℕ → List Constraint → Option ℕ

@@ -33,7 +33,7 @@ encodeConstraint (relation disjoint A B C) = 8 ∷ A .index ∷ B .index ∷ []
 encodeConstraint (relation subset A B C) = 9 ∷ A .index ∷ B .index ∷ []
 encodeConstraint (relation intersection A B C) = 10 ∷ A .index ∷ B .index ∷ C .index ∷ []
 encodeConstraint (exactly A es) = 11 ∷ A .index ∷ length es ∷ map (λ (e : Term). e .index) es
-encodeConstraint (interval A i j) = 12 ∷ A .index ∷ i .index ∷ j .index ∷ []
+encodeConstraint (interval A i j es) = 12 ∷ A .index ∷ i .index ∷ j .index ∷ []
 
 -- four sections in fixed order, each after a one-byte count
 abbrev pub encode : Problem → List ℕ

@@ -7,7 +7,7 @@ use lib.ListN.{length, getD}
 use lib.Dec.{eqb}
 use Rattle.calculus.specs.Lists.{any, Each}
 use Rattle.calculus.specs.Terms.{Term, SetVar, term, setVar}
-use Rattle.calculus.specs.Meaning.{Constraint, member, nonmember, same, different, relation, negation, exactly, interval, entries}
+use Rattle.calculus.specs.Meaning.{Constraint, member, nonmember, same, different, relation, negation, exactly, interval}
 use Rattle.calculus.specs.Branch.{Branch, rootAt, inside, outside}
 
 -- no term's parent is higher than itself
@@ -36,7 +36,7 @@ ConstraintIn n m (different t u) = (t .index < n) × (u .index < n)
 ConstraintIn n m (relation k A B C) = (A .index < m) × (B .index < m) × (C .index < m)
 ConstraintIn n m (negation k A B C w) = ((A .index < m) × (B .index < m) × (C .index < m)) × (w .index < n)
 ConstraintIn n m (exactly A es) = (A .index < m) × Each (λ e. e .index < n) es
-ConstraintIn n m (interval A i j) = (A .index < m) × Each (λ e. e .index < n) (entries i j)
+ConstraintIn n m (interval A i j es) = (A .index < m) × Each (λ e. e .index < n) es
 
 abbrev pub sumBelow : ℕ → (ℕ → ℕ) → ℕ
 sumBelow zero f = 0

@@ -2,20 +2,19 @@
 use mathlib.Core.Path.{_≡_, refl}
 use mathlib.Core.Logic.{_↔_, _⊎_}
 use mathlib.Core.List.{List, [], _∷_, _++_, map}
-use Prim.Native.Nat.{ℕ, zero, suc, _+_, _-_}
 use lib.IntN.{ℤ, pos, negsuc}
 use lib.Signed.{_≤ℤ_}
-use Rattle.calculus.specs.Terms.{Term, SetVar, termsFrom}
+use Rattle.calculus.specs.Terms.{Term, SetVar}
 use Rattle.calculus.specs.Relations.{Relation, equal, union, disjoint, subset, intersection, Negation, denies}
 
--- Kinds 1, 2: member, nonmember; 3, 4: same, different; 5, 7 to 10: relation; 6: negation, with its witness w; 11: exactly; 12: interval. A relation of two sets, and a negation of one, repeats A for C.
+-- Kinds 1, 2: member, nonmember; 3, 4: same, different; 5, 7 to 10: relation; 6: negation, with its witness w; 11: exactly; 12: interval, with its entries. A relation of two sets, and a negation of one, repeats A for C.
 pub data Constraint : Type 0 where
   member nonmember : (t : Term) (A : SetVar) → Constraint
   same different : (t u : Term) → Constraint
   relation : Relation → (A B C : SetVar) → Constraint
   negation : Negation → (A B C : SetVar) (w : Term) → Constraint
   exactly : (A : SetVar) → List Term → Constraint
-  interval : (A : SetVar) (i j : Term) → Constraint
+  interval : (A : SetVar) (i j : Term) → List Term → Constraint
 
 -- x is a member of a finite set, which is a list of its members
 infix 4 _∈_
@@ -40,10 +39,6 @@ AtPoint intersection P Q R = R ↔ (P × Q)
 abbrev pub Relates : Relation → List ℤ → List ℤ → List ℤ → Type 0
 Relates k A B C = (x : ℤ) → AtPoint k (x ∈ A) (x ∈ B) (x ∈ C)
 
--- the entries of an interval: constants i to j
-abbrev pub entries : Term → Term → List Term
-entries i j = termsFrom (i .index) (suc (j .index) - i .index)
-
 -- the meaning of a constraint
 abbrev pub Holds : Valuation → Constraint → Type 0
 Holds v (member t A) = v .num t ∈ v .members A
@@ -53,4 +48,4 @@ Holds v (different t u) = ¬ (v .num t ≡ v .num u)
 Holds v (relation k A B C) = Relates k (v .members A) (v .members B) (v .members C)
 Holds v (negation k A B C w) = ¬ Relates (denies k) (v .members A) (v .members B) (v .members C)
 Holds v (exactly A es) = (x : ℤ) → x ∈ v .members A ↔ x ∈ map (v .num) es
-Holds v (interval A i j) = (x : ℤ) → x ∈ v .members A ↔ ((v .num i ≤ℤ x) × (x ≤ℤ v .num j))
+Holds v (interval A i j es) = (x : ℤ) → x ∈ v .members A ↔ ((v .num i ≤ℤ x) × (x ≤ℤ v .num j))

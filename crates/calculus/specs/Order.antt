@@ -1,4 +1,4 @@
--- Document 01's order of work a second time, as relations, without fuel and without the search of Search.antt: what asserting gives, what a record shows, which place is first, which children a step leaves, what a path is, and how a run goes. Of the first telling it uses branches with what they know, roots, start and assert (Branch.antt), which Reaches and Asserts (Demands.antt) describe, the entries of an interval (Meaning.antt) and which terms are constants (Problem.antt).
+-- Document 01's order of work a second time, as relations, without fuel and without the search of Search.antt: what asserting gives, what a record shows, which place is first, which children a step leaves, what a path is, and how a run goes. Of the first telling it uses branches with what they know, roots, start and assert (Branch.antt), which Reaches and Asserts (Demands.antt) describe, and which terms are constants (Problem.antt).
 use mathlib.Core.Path.{_≡_}
 use mathlib.Core.Logic.{_⊎_, _↔_, _≢_}
 use mathlib.Core.Bool.{true}
@@ -9,7 +9,7 @@ use lib.ListN.{length, getD}
 use Rattle.calculus.specs.Lists.{Some, bit}
 use Rattle.calculus.specs.Terms.{Term, SetVar, term, setVar}
 use Rattle.calculus.specs.Relations.{equal, union, disjoint, subset, intersection, unequal}
-use Rattle.calculus.specs.Meaning.{Constraint, member, nonmember, same, different, relation, negation, exactly, interval, entries, Valuation, Holds}
+use Rattle.calculus.specs.Meaning.{Constraint, member, nonmember, same, different, relation, negation, exactly, interval, Valuation, Holds}
 use Rattle.calculus.specs.Branch.{Branch, start, rootAt, root, Fact, In, Out, Same, known, assert}
 use Rattle.calculus.specs.Problem.{Problem, termCount, constantTerms}
 use Rattle.calculus.specs.Calls.{Verdict, FORMS, FALSE, SPENT, NOROOM}
@@ -77,15 +77,19 @@ pub data Once : List Term → List Term → List Term → Type 0 where
   again : {seen es ds : List Term} {e : Term} → Some (λ x. x ≡ e) seen → Once seen es ds → Once seen (e ∷ es) ds
   anew : {seen es ds : List Term} {e : Term} → ¬ Some (λ x. x ≡ e) seen → Once (e ∷ seen) es ds → Once seen (e ∷ es) (e ∷ ds)
 
+-- the constraint has these entries for set A
+pub data Lists : Constraint → SetVar → List Term → Type 0 where
+  by-list : {A : SetVar} {es : List Term} → Lists (exactly A es) A es
+  by-interval : {A : SetVar} {i j : Term} {es : List Term} → Lists (interval A i j es) A es
+
 -- Propagation rules (phase 0) go before splits (phase 1); within either, constraints in order, then rule numbers upward, then positions: roots upward, for rule 19 entries in order.
 pub record Place : Type 0 where
   pub phase : ℕ
   pub constraint : ℕ
   pub rule : ℕ
   pub position : ℕ
-  -- the root concerned, for the trace
+  -- the root concerned, for the trace, and the facts of each child
   pub concerned : Term
-  -- the facts of each child
   pub alternatives : List (List Fact)
 
 abbrev pub Before : Place → Place → Type 0
@@ -113,12 +117,10 @@ module _ (n : ℕ) (b : Branch) where
     rule16 : {A B C : SetVar} {h : ℕ} → Root h → KnownIn b (term h) C → ¬ KnownIn b (term h) A → Fires (relation intersection A B C) 0 16 h (term h) ((In (term h) A ∷ []) ∷ [])
     rule17 : {A B C : SetVar} {h : ℕ} → Root h → KnownIn b (term h) C → ¬ KnownIn b (term h) B → Fires (relation intersection A B C) 0 17 h (term h) ((In (term h) B ∷ []) ∷ [])
     rule18 : {A B C : SetVar} {h : ℕ} → Root h → KnownIn b (term h) A → KnownIn b (term h) B → ¬ KnownIn b (term h) C → Fires (relation intersection A B C) 0 18 h (term h) ((In (term h) C ∷ []) ∷ [])
-    rule19 : {A : SetVar} {es : List Term} (p : ℕ) → p < length es → ¬ KnownIn b (getD es p (term 0)) A → Fires (exactly A es) 0 19 p (root b (getD es p (term 0))) ((In (getD es p (term 0)) A ∷ []) ∷ [])
-    rule19′ : {A : SetVar} {i j : Term} (p : ℕ) → p < length (entries i j) → ¬ KnownIn b (getD (entries i j) p (term 0)) A → Fires (interval A i j) 0 19 p (root b (getD (entries i j) p (term 0))) ((In (getD (entries i j) p (term 0)) A ∷ []) ∷ [])
+    rule19 : {l : Constraint} {A : SetVar} {es : List Term} (p : ℕ) → Lists l A es → p < length es → ¬ KnownIn b (getD es p (term 0)) A → Fires l 0 19 p (root b (getD es p (term 0))) ((In (getD es p (term 0)) A ∷ []) ∷ [])
     rule7 : {A B C : SetVar} {w : Term} → ¬ (KnownIn b w A × KnownOut b w B) → ¬ (KnownOut b w A × KnownIn b w B) → Fires (negation unequal A B C w) 1 7 0 (root b w) ((In w A ∷ Out w B ∷ []) ∷ (Out w A ∷ In w B ∷ []) ∷ [])
     rule12 : {A B C : SetVar} {h : ℕ} → Root h → KnownIn b (term h) C → ¬ KnownIn b (term h) A → ¬ KnownOut b (term h) A → ¬ KnownIn b (term h) B → ¬ KnownOut b (term h) B → Fires (relation union A B C) 1 12 h (term h) ((In (term h) A ∷ []) ∷ (Out (term h) A ∷ In (term h) B ∷ []) ∷ [])
-    rule20 : {A : SetVar} {h : ℕ} {es ds : List Term} → Root h → KnownIn b (term h) A → ((p : ℕ) → p < length es → ¬ OneClass b (term h) (getD es p (term 0))) → Once [] (map (root b) es) ds → Fires (exactly A es) 1 20 h (term h) (map (λ e. Same (term h) e ∷ []) ds)
-    rule20′ : {A : SetVar} {h : ℕ} {i j : Term} {ds : List Term} → Root h → KnownIn b (term h) A → ((p : ℕ) → p < length (entries i j) → ¬ OneClass b (term h) (getD (entries i j) p (term 0))) → Once [] (map (root b) (entries i j)) ds → Fires (interval A i j) 1 20 h (term h) (map (λ e. Same (term h) e ∷ []) ds)
+    rule20 : {l : Constraint} {A : SetVar} {h : ℕ} {es ds : List Term} → Lists l A es → Root h → KnownIn b (term h) A → ((p : ℕ) → p < length es → ¬ OneClass b (term h) (getD es p (term 0))) → Once [] (map (root b) es) ds → Fires l 1 20 h (term h) (map (λ e. Same (term h) e ∷ []) ds)
 
 -- ---- the children of a step
 

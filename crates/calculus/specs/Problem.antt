@@ -77,7 +77,11 @@ Repeats disjoint A C = C ≡ A
 Repeats subset A C = C ≡ A
 Repeats intersection A C = Unit {0}
 
--- questions 8 and 9 of a constraint, and that it is told in one way (Repeats): cs are the constants, the first N terms can be named, and there are S sets
+-- the entries of an interval: constants i to j
+abbrev pub entries : Term → Term → List Term
+entries i j = termsFrom (i .index) (suc (j .index) - i .index)
+
+-- questions 8 and 9 of a constraint, and that it is told in one way (Repeats, and an interval has its entries): cs are the constants, the first N terms can be named, and there are S sets
 abbrev pub Refers : List ℤ → ℕ → ℕ → Constraint → Type 0
 Refers cs N S (member t A) = (t .index < N) × (A .index < S)
 Refers cs N S (nonmember t A) = (t .index < N) × (A .index < S)
@@ -86,8 +90,7 @@ Refers cs N S (different t u) = (t .index < N) × (u .index < N)
 Refers cs N S (relation k A B C) = (A .index < S) × (B .index < S) × (C .index < S) × Repeats k A C
 Refers cs N S (negation k A B C w) = (A .index < S) × (B .index < S) × (C ≡ A)
 Refers cs N S (exactly A es) = (A .index < S) × Each (λ e. e .index < N) es
-Refers cs N S (interval A i j) = (A .index < S) × (i .index < length cs) × (j .index < length cs)
-    × ((x : ℤ) → getD cs (i .index) (pos 0) ≤ℤ x → x ≤ℤ getD cs (j .index) (pos 0) → x ∈ cs)
+Refers cs N S (interval A i j es) = (A .index < S) × (i .index < length cs) × (j .index < length cs) × ((x : ℤ) → getD cs (i .index) (pos 0) ≤ℤ x → x ≤ℤ getD cs (j .index) (pos 0) → x ∈ cs) × (es ≡ entries i j)
 
 -- how many witnesses a constraint has, and that it is term w
 abbrev pub uses : Constraint → ℕ
@@ -98,7 +101,7 @@ uses (different t u) = 0
 uses (relation k A B C) = 0
 uses (negation k A B C w) = 1
 uses (exactly A es) = 0
-uses (interval A i j) = 0
+uses (interval A i j es) = 0
 
 abbrev pub Tied : ℕ → Constraint → Type 0
 Tied w (member t A) = Unit {0}
@@ -108,7 +111,7 @@ Tied w (different t u) = Unit {0}
 Tied w (relation k A B C) = Unit {0}
 Tied w (negation k A B C u) = u .index ≡ w
 Tied w (exactly A es) = Unit {0}
-Tied w (interval A i j) = Unit {0}
+Tied w (interval A i j es) = Unit {0}
 
 -- the witnesses are numbered from w, in the order of the constraints, up to last
 abbrev pub Numbered : ℕ → ℕ → List Constraint → Type 0

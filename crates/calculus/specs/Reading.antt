@@ -11,7 +11,7 @@ use Rattle.calculus.specs.Lists.{all, upFrom}
 use Rattle.calculus.specs.Terms.{Term, SetVar, term, setVar}
 use Rattle.calculus.specs.Relations.{equal, union, disjoint, subset, intersection, unequal}
 use Rattle.calculus.specs.Meaning.{Constraint, member, nonmember, same, different, relation, negation, exactly, interval}
-use Rattle.calculus.specs.Problem.{Problem, uses}
+use Rattle.calculus.specs.Problem.{Problem, entries, uses}
 
 -- what is read, or a refusal with its number
 pub data Parsed (A : Type 0) : Type 0 where
@@ -121,7 +121,7 @@ module _ (cs : List ℤ) (N S : ℕ) where
     (j, r₃) ← byte r₂
     _ ← ask 8 (ltb A S && ltb i N && ltb j N)
     _ ← ask 9 (ltb i (length cs) && ltb j (length cs) && gapless cs i j)
-    parsed (interval (setVar A) (term i) (term j), r₃)
+    parsed (interval (setVar A) (term i) (term j) (entries (term i) (term j)), r₃)
 
   -- kinds 0 to 12, of which 0 is none; w is the next witness
   abbrev pub kinds : ℕ → List Parser

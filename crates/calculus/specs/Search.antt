@@ -9,7 +9,7 @@ use Rattle.calculus.specs.Lists.{keep, first, gather, picked}
 use Rattle.calculus.specs.Terms.{Term, SetVar, termsFrom}
 use Rattle.calculus.specs.Relations.{Rule, applies, propagation, mapRule, Operand, operandOf, Literal, propagationRows, splitRows, negationRow}
 use Rattle.calculus.specs.Relations as R
-use Rattle.calculus.specs.Meaning.{Constraint, member, nonmember, same, different, relation, negation, exactly, interval, entries}
+use Rattle.calculus.specs.Meaning.{Constraint, member, nonmember, same, different, relation, negation, exactly, interval}
 use Rattle.calculus.specs.Branch.{Branch, rootAt, root, Fact, In, Out, Same, known, assertAll}
 
 -- a rule on facts of terms
@@ -54,7 +54,7 @@ module _ (hs : List Term) (b : Branch) where
   propagations (relation k A B C) = over hs (operandOf A B C) (propagationRows k)
   propagations (negation k A B C w) = []
   propagations (exactly A es) = listing A es
-  propagations (interval A i j) = listing A (entries i j)
+  propagations (interval A i j es) = listing A es
 
   abbrev pub splits : Constraint → List (Term × Move)
   splits (member t A) = []
@@ -64,7 +64,7 @@ module _ (hs : List Term) (b : Branch) where
   splits (relation k A B C) = over hs (operandOf A B C) (splitRows k)
   splits (negation k A B C w) = (root b w, at w (operandOf A B C) (negationRow k)) ∷ []
   splits (exactly A es) = choosing A es
-  splits (interval A i j) = choosing A (entries i j)
+  splits (interval A i j es) = choosing A es
 
 -- the roots of n terms, upward
 abbrev pub rootsOf : ℕ → Branch → List Term

@@ -19,7 +19,7 @@ use Rattle.calculus.proofs.RecordLaws.{records}
 
 -- constants 3 and 4; x in A, A = [3, 4], x ≠ 3
 abbrev c1 : Problem
-c1 = record { constants = pos 3 ∷ pos 4 ∷ []; variables = 120 ∷ []; sets = 65 ∷ []; witnesses = 0; constraints = member (term 2) (setVar 0) ∷ interval (setVar 0) (term 0) (term 1) ∷ different (term 2) (term 0) ∷ [] }
+c1 = record { constants = pos 3 ∷ pos 4 ∷ []; variables = 120 ∷ []; sets = 65 ∷ []; witnesses = 0; constraints = member (term 2) (setVar 0) ∷ interval (setVar 0) (term 0) (term 1) (term 0 ∷ term 1 ∷ []) ∷ different (term 2) (term 0) ∷ [] }
 
 -- child k of a branch
 abbrev child : ℕ → Branch → Branch

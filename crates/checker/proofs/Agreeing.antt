@@ -12,7 +12,7 @@ use lib.IntN.{ℤ, pos}
 use borrow.Author.Tests.{lt-ltb, le-ltb}
 use Rattle.calculus.specs.Lists.{all, Each}
 use Rattle.calculus.specs.Terms.{Term, SetVar, term, setVar}
-use Rattle.calculus.specs.Meaning.{Constraint, member, nonmember, same, different, relation, negation, exactly, interval, entries, Valuation}
+use Rattle.calculus.specs.Meaning.{Constraint, member, nonmember, same, different, relation, negation, exactly, interval, Valuation}
 use Rattle.calculus.specs.Problem.{Problem, constantCount, nameable, setCount, values, valueOf, Refers, Valid}
 use Rattle.calculus.specs.Reading.{parsed, read, words}
 use Rattle.calculus.specs.Encoding.{Handed}
@@ -52,7 +52,7 @@ module _ (n s : ℕ) (v w : Valuation) (a : Agree n s v w) where
   tests-agree cs k e (relation q A B C) r = rw (a .sets A (r .0), a .sets B (r .1), a .sets C (r .2)) refl
   tests-agree cs k e (negation q A B C u) r = rw (a .sets A (r .0), a .sets B (r .1), a .sets C (subst (λ (X : SetVar). X .index < s) (sym (r .2)) (r .0))) refl
   tests-agree cs k e (exactly A es) r = listed A es (r .0) (r .1)
-  tests-agree cs k e (interval A i j) r = listed A (entries i j) (r .0) (terms-each (λ t. t .index < n) (i .index) (suc (j .index) - i .index) (λ t l h. omega (arith, r .1, r .2)))
+  tests-agree cs k e (interval A i j es) r = listed A es (r .0) (rw (r .4) (terms-each (λ t. t .index < n) (i .index) (suc (j .index) - i .index) (λ t l h. omega (arith, r .1, r .2))))
 
   pub lowest-agrees : (cs : List ℤ) (k : ℕ) → n ≡ length cs + k → (i : ℕ) (ls : List Constraint) → Each (Refers cs n s) ls → lowest v i ls ≡ lowest w i ls
   lowest-agrees cs k e i [] r = refl

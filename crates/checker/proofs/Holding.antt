@@ -13,7 +13,7 @@ use borrow.Author.Tests.{lt-ltb, le-ltb}
 use Rattle.calculus.specs.Limits.{mostSets}
 use Rattle.calculus.specs.Lists.{all, Each}
 use Rattle.calculus.specs.Terms.{Term, SetVar, term, setVar}
-use Rattle.calculus.specs.Meaning.{Constraint, entries, Valuation}
+use Rattle.calculus.specs.Meaning.{Constraint, Valuation}
 use Rattle.calculus.specs.Problem.{Problem, nameable, setCount, Refers}
 use Rattle.calculus.specs.Relations.{Relation, equal, denies}
 use Rattle.calculus.specs.Reading.{parsed, read, words, signed, eqZ}
@@ -31,7 +31,6 @@ use Rattle.constraints.specs.declared.Constraint.the-variants.{Interval}
 use Rattle.constraints.specs.declared.Negation as codeNegation
 use Rattle.constraints.specs.declared.Negation.the-variants.{Unequal}
 use Rattle.constraints.specs.Decoded.{decoded, negationOf, Unpacked}
-use Rattle.places.specs.Places.{entriesOf}
 use Rattle.handed.specs.declared.Layout.{Layout}
 use Rattle.handed.specs.Laid.{membersAt}
 use Rattle.checker.specs.Tested.{numberOf, seen, Readable, entriesIn, Fitting, failing}
@@ -81,8 +80,7 @@ module _ (bs : List ℕ) (tab : Table) (o : Opened bs tab) (hs : List ℕ) (at :
     pub interval-entries : (A : codeSet.SetVar) (x y : codeTerm.Term) → c ≡ Interval A x y → Each (Readable bs tab hs) es
     interval-entries A x y e =
         let r = named (Interval A x y) e in
-        let q = subst (λ (z : code.Constraint). entriesOf (decoded (map term es) z) ≡ map term es) e (u .handled .entries-are) in
-        entries-readable (subst (Each (λ (t : Term). t .index < tab .constants + tab .variables)) q (terms-each (λ (t : Term). t .index < tab .constants + tab .variables) (x .0) (suc (y .0) - x .0) (λ t g h. omega (arith, r .1, r .2, constants-count))))
+        entries-readable (subst (Each (λ (t : Term). t .index < tab .constants + tab .variables)) (sym (r .4)) (terms-each (λ (t : Term). t .index < tab .constants + tab .variables) (x .0) (suc (y .0) - x .0) (λ t g h. omega (arith, r .1, r .2, constants-count))))
 
   -- the members of a set are there
   pub members-in : (A : ℕ) → A < tab .sets → (A < mostSets) × (getD (at .starts) A 0 + 2 * getD (at .counts) A 0 ≤ length hs)
@@ -113,11 +111,6 @@ module _ (bs : List ℕ) (tab : Table) (hs : List ℕ) (at : Layout) where
 -- what a negation denies is equality
 pub negated-relates : (n : codeNegation.Negation) (b : Bool) (l m r : List ℤ) → b ≡ relates? equal l m r → b ≡ relates? (denies (negationOf n)) l m r
 negated-relates Unequal b l m r e = e
-
--- an interval's entries are those that the test goes through
-pub interval-test : (bs : List ℕ) (i : ℕ) (es : List ℕ) {c : code.Constraint} → Unpacked bs i es c → (A : codeSet.SetVar) (x y : codeTerm.Term) → c ≡ Interval A x y → (v : Valuation) (B : SetVar)
-    → exactly? v B (map term es) ≡ exactly? v B (entries (term (x .0)) (term (y .0)))
-interval-test bs i es u A x y e v B = ap (exactly? v B) (sym (subst (λ (z : code.Constraint). entriesOf (decoded (map term es) z) ≡ map term es) e (u .handled .entries-are)))
 
 pub same-set : {A C : SetVar} {n : ℕ} → C ≡ A → A .index < n → C .index < n
 same-set {n = n} e l = subst (λ (X : SetVar). X .index < n) (sym e) l

@@ -14,7 +14,7 @@ use Rattle.calculus.specs.Lists.{Each, upFrom}
 use Rattle.calculus.specs.Terms.{Term, SetVar, term, setVar}
 use Rattle.calculus.specs.Relations as relations
 use Rattle.calculus.specs.Meaning as calculus
-use Rattle.calculus.specs.Problem.{Problem, nameable, termCount, setCount, Refers}
+use Rattle.calculus.specs.Problem.{Problem, nameable, termCount, setCount, entries, Refers}
 use Rattle.calculus.specs.Encoding.{encodeConstraint}
 use Rattle.calculus.specs.Invariants.{ConstraintIn}
 use Rattle.calculus.proofs.Bools.{Each-imp}
@@ -26,8 +26,8 @@ use Rattle.terms.specs.declared.Term as terms
 use Rattle.terms.specs.declared.SetVar as sets
 use Rattle.questions.proofs.Constants.{AllBytes}
 use Rattle.problem.specs.declared.Table.{Table}
-use Rattle.problem.specs.Table.{problemTable, Opened, Stands, constraintsOf, noConstraint, constraintOf, kindOf, listed, witnessOf}
-use Rattle.problem.proofs.Access.{Read, opened, Placed, placed, place-of, kind-read, list-count, witness-read, witness-is, opened-sizes}
+use Rattle.problem.specs.Table.{problemTable, Opened, Stands, constraintsOf, noConstraint, constraintOf, kindOf, witnessOf}
+use Rattle.problem.proofs.Access.{Read, opened, Placed, placed, place-of, kind-read, witness-read, witness-is, opened-sizes}
 use Rattle.constraints.specs.declared.Constraint.{Constraint}
 use Rattle.constraints.specs.declared.Constraint.the-variants.{Member, Nonmember, Same, Different, Related, Negated, Exactly, Interval}
 use Rattle.places.specs.Places.{entriesOf}
@@ -52,14 +52,14 @@ ofKind k p q s w es =
     ∷ calculus.relation relations.subset (setVar p) (setVar q) (setVar p)
     ∷ calculus.relation relations.intersection (setVar p) (setVar q) (setVar s)
     ∷ calculus.exactly (setVar p) es
-    ∷ calculus.interval (setVar p) (term q) (term s)
+    ∷ calculus.interval (setVar p) (term q) (term s) es
     ∷ []
     ) k noConstraint
 
 -- a constraint is that of its kind over the bytes that follow its kind byte
 by-kind : (cs : List ℤ) (N S w : ℕ) (rest : List ℕ) (x : calculus.Constraint) → Refers cs N S x
     → ((k : relations.Negation) (A B C : SetVar) (u : Term) → x ≡ calculus.negation k A B C u → term w ≡ u)
-    → x ≡ ofKind (kindOf x) (getD (encodeConstraint x ++ rest) 1 0) (getD (encodeConstraint x ++ rest) 2 0) (getD (encodeConstraint x ++ rest) 3 0) w (listed x)
+    → x ≡ ofKind (kindOf x) (getD (encodeConstraint x ++ rest) 1 0) (getD (encodeConstraint x ++ rest) 2 0) (getD (encodeConstraint x ++ rest) 3 0) w (entriesOf x)
 by-kind cs N S w rest (calculus.member t A) a h = refl
 by-kind cs N S w rest (calculus.nonmember t A) a h = refl
 by-kind cs N S w rest (calculus.same t u) a h = refl
@@ -71,7 +71,7 @@ by-kind cs N S w rest (calculus.relation relations.subset A B C) a h = ap (calcu
 by-kind cs N S w rest (calculus.relation relations.intersection A B C) a h = refl
 by-kind cs N S w rest (calculus.negation relations.unequal A B C u) a h = ap₂ (calculus.negation relations.unequal A B) (a .2) (sym (h relations.unequal A B C u refl))
 by-kind cs N S w rest (calculus.exactly A es) a h = refl
-by-kind cs N S w rest (calculus.interval A i j) a h = refl
+by-kind cs N S w rest (calculus.interval A i j es) a h = refl
 
 -- the kinds of three operands
 abbrev three : List ℕ
@@ -90,7 +90,7 @@ kind-sizes (calculus.relation relations.subset A B C) = (omega arith, omega arit
 kind-sizes (calculus.relation relations.intersection A B C) = (omega arith, omega arith, omega arith, λ h. omega arith)
 kind-sizes (calculus.negation relations.unequal A B C u) = (omega arith, omega arith, omega arith, λ h. absurd (miss three 6 tt h))
 kind-sizes (calculus.exactly A es) = (omega arith, omega arith, omega arith, λ h. absurd (miss three 11 tt h))
-kind-sizes (calculus.interval A i j) = (omega arith, omega arith, omega arith, λ h. omega arith)
+kind-sizes (calculus.interval A i j es) = (omega arith, omega arith, omega arith, λ h. omega arith)
 
 -- k is none of 1 to n, as the last arm of a match knows it
 abbrev NoneTo : ℕ → ℕ → Type 0
@@ -122,7 +122,7 @@ wider n m N M u v (calculus.different t s) a = (omega (arith, a .0), omega (arit
 wider n m N M u v (calculus.relation k A B C) a = (omega (arith, a .0), omega (arith, a .1), omega (arith, a .2))
 wider n m N M u v (calculus.negation k A B C w) a = ((omega (arith, a .0 .0), omega (arith, a .0 .1), omega (arith, a .0 .2)), omega (arith, a .1))
 wider n m N M u v (calculus.exactly A es) a = (omega (arith, a .0), Each-imp (λ e. e .index < n) (λ e. e .index < N) es (λ e l. omega arith) (a .1))
-wider n m N M u v (calculus.interval A i j) a = (omega (arith, a .0), Each-imp (λ e. e .index < n) (λ e. e .index < N) (calculus.entries i j) (λ e l. omega arith) (a .1))
+wider n m N M u v (calculus.interval A i j es) a = (omega (arith, a .0), Each-imp (λ e. e .index < n) (λ e. e .index < N) es (λ e l. omega arith) (a .1))
 
 -- constraint i is in all ranges that hold the problem's terms and sets
 pub constraint-in : (bs : List ℕ) (tab : Table) (i : ℕ) → Opened bs tab → i < tab .constraints → (N M : ℕ) → tab .terms ≤ N → tab .sets ≤ M → ConstraintIn N M (constraintOf bs i)
@@ -199,14 +199,17 @@ module _ (bs : List ℕ) (i at : ℕ) (st : Stands bs i at) where
   pub third-operand : OneOf three (getD bs at 0) → at + 3 < length bs
   third-operand h = omega (arith, kind-sizes this .3 (subst (OneOf three) kind-here h), here-length)
 
+  abbrev prob : Problem
+  prob = opened bs (st .tab) (st .opened) .prob
+
+  refers : Refers (prob .constants) (nameable prob) (setCount prob) this
+  refers = let r = opened bs (st .tab) (st .opened) in of-problem bs (st .tab) i (st .there) r (Refers (prob .constants) (nameable prob) (setCount prob)) (read-valid bs prob (r .reads) .refers)
+
   -- constraint i is that of its kind over the bytes that follow its kind byte
-  pub reads-as : (w : ℕ) → term w ≡ witnessOf bs i → (k : ℕ) → getD bs at 0 ≡ k → this ≡ ofKind k (getD bs (at + 1) 0) (getD bs (at + 2) 0) (getD bs (at + 3) 0) w (listed this)
+  pub reads-as : (w : ℕ) → term w ≡ witnessOf bs i → (k : ℕ) → getD bs at 0 ≡ k → this ≡ ofKind k (getD bs (at + 1) 0) (getD bs (at + 2) 0) (getD bs (at + 3) 0) w (entriesOf this)
   reads-as w u k e =
-      let r = opened bs (st .tab) (st .opened) in
-      let prob : Problem = r .prob in
-      let a = of-problem bs (st .tab) i (st .there) r (Refers (prob .constants) (nameable prob) (setCount prob)) (read-valid bs prob (r .reads) .refers) in
       let q : kindOf this ≡ k = sym kind-here ∙ e in
-      let h = by-kind (prob .constants) (nameable prob) (setCount prob) w (place .rest) this a (λ k A B C v z. u ∙ witness-is bs (st .tab) i (st .opened) k A B C v z) in
+      let h = by-kind (prob .constants) (nameable prob) (setCount prob) w (place .rest) this refers (λ k A B C v z. u ∙ witness-is bs (st .tab) i (st .opened) k A B C v z) in
       let byte : (j : ℕ) → getD (encodeConstraint this ++ place .rest) j 0 ≡ getD bs (at + j) 0 = λ j. ap (λ (xs : List ℕ). getD xs j 0) (sym here) ∙ getD-drop at bs j 0 in
       rw (q, byte 1, byte 2, byte 3) at h
 
@@ -219,29 +222,31 @@ module _ (bs : List ℕ) (i at : ℕ) (st : Stands bs i at) where
   unpacked : (es : List ℕ) (r : Constraint) → this ≡ decoded (map term es) r → entriesOf (decoded (map term es) r) ≡ map term es → length es ≤ 255 → Unpacked bs i es r
   unpacked es r e q n = record { is = e; handled = record { in-range = subst (ConstraintIn mostTerms mostSets) e in-range; entries-are = q; short = n } }
 
-  module _ (r : Constraint) (is : this ≡ decoded (listed this) r) where
+  module _ (r : Constraint) (is : this ≡ decoded (entriesOf this) r) where
     -- a list's: as many as its count byte says
     module _ (A : sets.SetVar) (e : r ≡ Exactly A) where
       pub list-kind : kindOf this ≡ 11
-      list-kind = ap kindOf (is ∙ ap (decoded (listed this)) e)
+      list-kind = ap kindOf (is ∙ ap (decoded (entriesOf this)) e)
 
-      pub list-unpacked : AllBytes bs → (es : List ℕ) → map term es ≡ listed this → Unpacked bs i es r
+      pub list-unpacked : AllBytes bs → (es : List ℕ) → this ≡ calculus.exactly (setVar (getD bs (at + 1) 0)) (map term es) → Unpacked bs i es r
       list-unpacked known es h =
-          let n : length es ≡ getD bs (at + 2) 0 = sym (length-map es term) ∙ ap length h ∙ sym (list-count bs (st .tab) i place list-kind) ∙ ap (λ (x : ℕ). getD bs (x + 2) 0) (sym (st .offset)) in
-          let q : this ≡ calculus.exactly (setVar (A .0)) (map term es) = is ∙ ap (decoded (listed this)) e ∙ ap (calculus.exactly (setVar (A .0))) (sym h) in
-          unpacked es r (q ∙ ap (decoded (map term es)) (sym e)) (ap (λ (x : Constraint). entriesOf (decoded (map term es) x)) e) (omega (arith, known (at + 2)))
+          let n : getD bs (at + 2) 0 ≡ length (map term es) = sym (getD-drop at bs 2 0) ∙ ap (λ (xs : List ℕ). getD xs 2 0) here ∙ ap (λ (l : calculus.Constraint). getD (encodeConstraint l ++ place .rest) 2 0) h in
+          let q : this ≡ calculus.exactly (setVar (A .0)) (map term es) = is ∙ ap₂ decoded (ap entriesOf h) e in
+          unpacked es r (q ∙ ap (decoded (map term es)) (sym e)) (ap (λ (x : Constraint). entriesOf (decoded (map term es) x)) e) (omega (arith, known (at + 2), length-map es term))
 
     -- an interval's: the numbers from its first entry to its last
     module _ (A : sets.SetVar) (t u : terms.Term) (e : r ≡ Interval A t u) where
-      -- any entries that are those numbers
+      -- its entries are those numbers
+      filled : entriesOf this ≡ entries (term (t .0)) (term (u .0))
+      filled = subst (Refers (prob .constants) (nameable prob) (setCount prob)) (is ∙ ap (decoded (entriesOf this)) e) refers .4
+
       interval-is : (es : List ℕ) → upFrom (t .0) (suc (u .0) - t .0) ≡ es → length es ≤ 255 → Unpacked bs i es r
-      interval-is es h n =
-          unpacked es r (is ∙ ap (decoded (listed this)) e ∙ ap (decoded (map term es)) (sym e)) (ap (λ (x : Constraint). entriesOf (decoded (map term es) x)) e ∙ ap (map term) h) n
+      interval-is es h n = unpacked es r (is ∙ ap (λ (x : List Term). decoded x r) (filled ∙ ap (map term) h)) (ap (λ (x : Constraint). entriesOf (decoded (map term es) x)) e) n
 
       -- an interval that is not empty ends below mostTerms
       pub interval-end : t .0 ≤ u .0 → u .0 < mostTerms
       interval-end h =
-          let a : ConstraintIn mostTerms mostSets (decoded (listed this) (Interval A t u)) = subst (ConstraintIn mostTerms mostSets) (is ∙ ap (decoded (listed this)) e) in-range in
+          let a : ConstraintIn mostTerms mostSets (decoded (entries (term (t .0)) (term (u .0))) (Interval A t u)) = subst (ConstraintIn mostTerms mostSets) (is ∙ ap₂ decoded filled e) in-range in
           terms-at (λ x. x .index < mostTerms) (t .0) (suc (u .0) - t .0) (a .1) (u .0) h (omega arith)
 
       pub interval-unpacked : t .0 ≤ u .0 → (es numbers : List ℕ) → numbers ≡ upFrom 0 mostTerms → es ≡ take (u .0 + 1 - t .0) (drop (t .0) numbers) → Unpacked bs i es r
@@ -256,4 +261,4 @@ module _ (bs : List ℕ) (i at : ℕ) (st : Stands bs i at) where
 
     -- any other's: none
     pub others-unpacked : NoList r → NoInterval r → Unpacked bs i [] r
-    others-unpacked a b = let n = no-entries r a b (listed this) in unpacked [] r (is ∙ n .0) (n .1) (omega arith)
+    others-unpacked a b = let n = no-entries r a b (entriesOf this) in unpacked [] r (is ∙ n .0) (n .1) (omega arith)

@@ -27,7 +27,7 @@ relationOf Intersection = relations.intersection
 abbrev pub negationOf : Negation → relations.Negation
 negationOf Unequal = relations.unequal
 
--- es are the entries of a list, which stay in the problem
+-- es are the entries of a list or an interval, which the code hands on beside it
 abbrev pub decoded : List Term → Constraint → calculus.Constraint
 decoded es (Member t A) = calculus.member (term (t .0)) (setVar (A .0))
 decoded es (Nonmember t A) = calculus.nonmember (term (t .0)) (setVar (A .0))
@@ -36,7 +36,7 @@ decoded es (Different t u) = calculus.different (term (t .0)) (term (u .0))
 decoded es (Related k A B C) = calculus.relation (relationOf k) (setVar (A .0)) (setVar (B .0)) (setVar (C .0))
 decoded es (Negated k A B C w) = calculus.negation (negationOf k) (setVar (A .0)) (setVar (B .0)) (setVar (C .0)) (term (w .0))
 decoded es (Exactly A) = calculus.exactly (setVar (A .0)) es
-decoded es (Interval A i j) = calculus.interval (setVar (A .0)) (term (i .0)) (term (j .0))
+decoded es (Interval A i j) = calculus.interval (setVar (A .0)) (term (i .0)) (term (j .0)) es
 
 -- a constraint l that the code handles, with its entries: its terms and sets are below the limits
 pub record Handled (es : List ℕ) (l : Constraint) : Type 0 where

@@ -8,7 +8,8 @@ ghost use Prim.Native.Nat.{_<_};
 ghost use Rattle.calculus.specs.Limits.{mostTerms};
 ghost use Rattle.calculus.specs.Lists.{upFrom};
 ghost use Rattle.calculus.specs.Terms.{term};
-ghost use Rattle.problem.specs.Table.{Opened, Stands, constraintOf, listed, witnessOf};
+ghost use Rattle.problem.specs.Table.{Opened, Stands, constraintOf, witnessOf};
+ghost use Rattle.places.specs.Places.{entriesOf};
 ghost use Rattle.constraints.specs.Decoded.{decoded, Unpacked};
 
 // The relations between sets, and those that a constraint can deny.
@@ -24,7 +25,7 @@ pub enum Negation {
     Unequal,
 }
 
-// A constraint with its operands; one of two sets repeats its first operand. The entries of a list stay in the problem.
+// A constraint with its operands; one of two sets repeats its first operand. The entries of a list or an interval are handed on beside it (`list_at`).
 pub enum Constraint {
     Member(Term, SetVar),
     Nonmember(Term, SetVar),
@@ -39,7 +40,7 @@ pub enum Constraint {
 // Constraint i, which stands at an offset and whose witness is w.
 pub fn decode_at(problem: &[u8], i: usize, at: usize, w: u8) -> Constraint
     requires { ⌜ Stands (now problem) i at × (term w ≡ witnessOf (now problem) i) ⌝ }
-    ensures { λ r. ⌜ constraintOf (now (problem .entry)) i ≡ decoded (listed (constraintOf (now (problem .entry)) i)) r ⌝ }
+    ensures { λ r. ⌜ constraintOf (now (problem .entry)) i ≡ decoded (entriesOf (constraintOf (now (problem .entry)) i)) r ⌝ }
 {
     let p = problem[at + 1];
     let q = problem[at + 2];
@@ -73,7 +74,7 @@ pub fn decode_at(problem: &[u8], i: usize, at: usize, w: u8) -> Constraint
 // Constraint i.
 pub fn decode(problem: &[u8], tab: Table, i: usize) -> Constraint
     requires { ⌜ Opened (now problem) tab × (i < tab .constraints) ⌝ }
-    ensures { λ r. ⌜ constraintOf (now (problem .entry)) i ≡ decoded (listed (constraintOf (now (problem .entry)) i)) r ⌝ }
+    ensures { λ r. ⌜ constraintOf (now (problem .entry)) i ≡ decoded (entriesOf (constraintOf (now (problem .entry)) i)) r ⌝ }
 {
     let offsets = tab.offsets;
     let witnesses = tab.witnesses;
@@ -89,7 +90,7 @@ pub fn list_at<'a>(
     at: usize,
     l: Constraint,
 ) -> &'a [u8]
-    requires { ⌜ Stands (now problem) i at × (now numbers ≡ upFrom 0 mostTerms) × (constraintOf (now problem) i ≡ decoded (listed (constraintOf (now problem) i)) l) ⌝ }
+    requires { ⌜ Stands (now problem) i at × (now numbers ≡ upFrom 0 mostTerms) × (constraintOf (now problem) i ≡ decoded (entriesOf (constraintOf (now problem) i)) l) ⌝ }
     ensures { λ r. ⌜ Unpacked (now (problem .entry)) i (now r) l ⌝ }
 {
     if let Constraint::Exactly(_) = l {
@@ -115,7 +116,7 @@ pub fn list<'a>(
     i: usize,
     l: Constraint,
 ) -> &'a [u8]
-    requires { ⌜ Opened (now problem) tab × (i < tab .constraints) × (now numbers ≡ upFrom 0 mostTerms) × (constraintOf (now problem) i ≡ decoded (listed (constraintOf (now problem) i)) l) ⌝ }
+    requires { ⌜ Opened (now problem) tab × (i < tab .constraints) × (now numbers ≡ upFrom 0 mostTerms) × (constraintOf (now problem) i ≡ decoded (entriesOf (constraintOf (now problem) i)) l) ⌝ }
     ensures { λ r. ⌜ Unpacked (now (problem .entry)) i (now r) l ⌝ }
 {
     let offsets = tab.offsets;

@@ -13,7 +13,7 @@ use Rattle.calculus.specs.Limits.{mostSets, mostTerms}
 use Rattle.calculus.specs.Lists.{upFrom, keep, first, gather, Each}
 use Rattle.calculus.specs.Terms.{Term, SetVar, term}
 use Rattle.calculus.specs.Relations.{Rule, Literal, Relation, equal, union, disjoint, subset, intersection, Operand, applies, propagation, propagationRows, splitRows, negationRow, operandOf}
-use Rattle.calculus.specs.Meaning.{Constraint, member, nonmember, same, different, relation, negation, exactly, interval, entries}
+use Rattle.calculus.specs.Meaning.{Constraint, member, nonmember, same, different, relation, negation, exactly, interval}
 use Rattle.calculus.specs.Branch.{Branch, walk, rootAt, root, In, Out, Same, known}
 use Rattle.calculus.specs.Invariants.{Falls, ConstraintIn}
 use Rattle.calculus.specs.Search.{Move, at, over, choose, rootsOf}
@@ -72,7 +72,7 @@ propagations-offered n b (relation subset A B C) = rows-offered n b (operandOf A
 propagations-offered n b (relation intersection A B C) = rows-offered n b (operandOf A B C) (propagationRows intersection)
 propagations-offered n b (negation k A B C w) = refl
 propagations-offered n b (exactly A es) = listing-offered n b A es
-propagations-offered n b (interval A x y) = listing-offered n b A (entries x y)
+propagations-offered n b (interval A x y es) = listing-offered n b A es
 
 splits-offered : (n : ℕ) (b : Branch) (l : Constraint) → Offered true n b l
 splits-offered n b (member t A) = refl
@@ -86,7 +86,7 @@ splits-offered n b (relation subset A B C) = refl
 splits-offered n b (relation intersection A B C) = refl
 splits-offered n b (negation k A B C w) = refl
 splits-offered n b (exactly A es) = choosing-offered n b A es
-splits-offered n b (interval A x y) = choosing-offered n b A (entries x y)
+splits-offered n b (interval A x y es) = choosing-offered n b A es
 
 -- what a constraint offers is, for each of its rules in turn, the moves at that rule's positions
 pub offered : (split : Bool) (n : ℕ) (b : Branch) (l : Constraint)
@@ -121,7 +121,7 @@ module _ (n : ℕ) (b : Branch) where
   entry-positions (relation k A B C) j r e = absurd (relation-19 k A B C j r e)
   entry-positions (negation k A B C w) j r e = absurd (below-19 (0, 0) (7, 8) j (omega arith) (omega arith) r e)
   entry-positions (exactly A es) j r e = by-entries es j e
-  entry-positions (interval A x y) j r e = by-entries (entries x y) j e
+  entry-positions (interval A x y es) j r e = by-entries es j e
 
   module _ (fall : Falls (b .parents)) where
     root-le : (t : ℕ) → rootAt b t ≤ t
@@ -160,7 +160,7 @@ module _ (n : ℕ) (b : Branch) where
       root-positions (relation k A B C) j c e = all-roots (λ p. at (term p) (operandOf A B C) (rowOf k j))
       root-positions (negation k A B C w) j c e = one-root w (at w (operandOf A B C) (negationRow k)) (c .1)
       root-positions (exactly A es) j c e = list-roots A es j e
-      root-positions (interval A x y) j c e = list-roots A (entries x y) j e
+      root-positions (interval A x y es) j c e = list-roots A es j e
 
 -- where rule j of a constraint is found to apply, if it is not rule 19: a root, and the one concerned
 pub position-root : (n : ℕ) (b : Branch) (l : Constraint) (j p : ℕ) → Falls (b .parents) → n ≤ mostTerms → ConstraintIn mostTerms mostSets l → j ≢ 19 → firstAt n b l j ≡ some p → (p < mostTerms) × (rootAt b p ≡ p) × (moveAt b l j p .0 ≡ term p)

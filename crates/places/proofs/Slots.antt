@@ -13,7 +13,7 @@ use Rattle.calculus.specs.Lists.{upFrom, picked, Each, Some}
 use Rattle.calculus.specs.Terms.{Term, SetVar, term}
 use Rattle.calculus.specs.Relations.{Rule, Literal, Operand, Relation, equal, union, disjoint, subset, intersection, unequal, negationRow, operandOf}
 use Rattle.calculus.specs.Relations as R
-use Rattle.calculus.specs.Meaning.{Constraint, member, nonmember, same, different, relation, negation, exactly, interval, entries}
+use Rattle.calculus.specs.Meaning.{Constraint, member, nonmember, same, different, relation, negation, exactly, interval}
 use Rattle.calculus.specs.Branch.{Branch, root, Fact, In, Same, assert, assertAll}
 use Rattle.calculus.specs.Order.{Ranged}
 use Rattle.calculus.specs.Invariants.{WellFormed, ConstraintIn}
@@ -69,7 +69,7 @@ module _ (constants : List Term) (b : Branch) where
   by-slots (relation k A B C) p = relation-slots k A B C p
   by-slots (negation unequal A B C w) p = in-spans (BySlots (negation unequal A B C w) p) (0, 0) (7, 8) tt (refl, tt)
   by-slots (exactly A es) p = in-spans (BySlots (exactly A es) p) (19, 20) (20, 21) (refl, tt) (classes es p, tt)
-  by-slots (interval A x y) p = in-spans (BySlots (interval A x y) p) (19, 20) (20, 21) (refl, tt) (classes (entries x y) p, tt)
+  by-slots (interval A x y es) p = in-spans (BySlots (interval A x y es) p) (19, 20) (20, 21) (refl, tt) (classes es p, tt)
 
 -- the children of a step are those of its numbers, in order
 pub children-slots : (constants : List Term) (b : Branch) (l : Constraint) (j p : ℕ) → RuleOf l j → children constants b (moveAt b l j p .1) ≡ picked (childOf constants b l j p) (upFrom 0 (slotsOf l j))
@@ -122,7 +122,7 @@ module _ (n m : ℕ) where
     alternatives-in (relation k A B C) j p c r x y = row-in (term p) (operandOf A B C) (y (relation-19 k A B C j r)) (operand-in A B C c) (rowOf k j)
     alternatives-in (negation k A B C w) j p c r x y = row-in w (operandOf A B C) (c .1) (operand-in A B C (c .0)) (negationRow k)
     alternatives-in (exactly A es) j p c r x y = list-in A es j p (c .0) (c .1) x y
-    alternatives-in (interval A u v) j p c r x y = list-in A (entries u v) j p (c .0) (c .1) x y
+    alternatives-in (interval A u v es) j p c r x y = list-in A es j p (c .0) (c .1) x y
 
     -- what is asserted in range keeps the branch sound
     picked-fit : (gs : List (List Fact)) → InRange gs → Each (WellFormed n constants) (picked (assertAll constants b) gs)
@@ -155,7 +155,7 @@ propagation-slots (relation subset A B C) j r = up-at (Single (relation subset A
 propagation-slots (relation intersection A B C) j r = up-at (Single (relation intersection A B C)) 16 3 (refl, (refl, (refl, tt))) j (r .0) (r .1)
 propagation-slots (negation k A B C w) j r = absurd (omega (arith, r .1))
 propagation-slots (exactly A es) j r = up-at (Single (exactly A es)) 19 1 (refl, tt) j (r .0) (r .1)
-propagation-slots (interval A x y) j r = up-at (Single (interval A x y)) 19 1 (refl, tt) j (r .0) (r .1)
+propagation-slots (interval A x y es) j r = up-at (Single (interval A x y es)) 19 1 (refl, tt) j (r .0) (r .1)
 
 -- the move of rule j says so
 module _ (b : Branch) (p : ℕ) where
@@ -174,4 +174,4 @@ module _ (b : Branch) (p : ℕ) where
   move-rule (relation intersection A B C) = in-spans (Says (relation intersection A B C)) (16, 19) (0, 0) (refl, (refl, (refl, tt))) tt
   move-rule (negation unequal A B C w) = in-spans (Says (negation unequal A B C w)) (0, 0) (7, 8) tt (refl, tt)
   move-rule (exactly A es) = in-spans (Says (exactly A es)) (19, 20) (20, 21) (refl, tt) (refl, tt)
-  move-rule (interval A x y) = in-spans (Says (interval A x y)) (19, 20) (20, 21) (refl, tt) (refl, tt)
+  move-rule (interval A x y es) = in-spans (Says (interval A x y es)) (19, 20) (20, 21) (refl, tt) (refl, tt)

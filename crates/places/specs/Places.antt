@@ -10,7 +10,7 @@ use Rattle.calculus.specs.Lists.{upFrom, keep, first}
 use Rattle.calculus.specs.Terms.{Term, SetVar, term}
 use Rattle.calculus.specs.Relations.{Rule, Literal, Relation, equal, union, disjoint, subset, intersection, applies, propagation, propagationRows, splitRows, negationRow, operandOf}
 use Rattle.calculus.specs.Relations as R
-use Rattle.calculus.specs.Meaning.{Constraint, member, nonmember, same, different, relation, negation, exactly, interval, entries}
+use Rattle.calculus.specs.Meaning.{Constraint, member, nonmember, same, different, relation, negation, exactly, interval}
 use Rattle.calculus.specs.Branch.{Branch, rootAt, root, In, Out, Same, known}
 use Rattle.calculus.specs.Search.{Move, at, choose, propagations, splits, rootsOf}
 
@@ -29,7 +29,7 @@ propagationSpan (relation subset A B C) = (15, 16)
 propagationSpan (relation intersection A B C) = (16, 19)
 propagationSpan (negation k A B C w) = (0, 0)
 propagationSpan (exactly A es) = (19, 20)
-propagationSpan (interval A i j) = (19, 20)
+propagationSpan (interval A i j es) = (19, 20)
 
 -- and of its split
 abbrev pub splitSpan : Constraint → ℕ × ℕ
@@ -44,7 +44,7 @@ splitSpan (relation subset A B C) = (0, 0)
 splitSpan (relation intersection A B C) = (0, 0)
 splitSpan (negation k A B C w) = (7, 8)
 splitSpan (exactly A es) = (20, 21)
-splitSpan (interval A i j) = (20, 21)
+splitSpan (interval A i j es) = (20, 21)
 
 abbrev pub spanOf : Bool → Constraint → ℕ × ℕ
 spanOf false l = propagationSpan l
@@ -83,7 +83,7 @@ module _ (b : Branch) where
   moveAt (relation k A B C) j p = (term p, at (term p) (operandOf A B C) (rowOf k j))
   moveAt (negation k A B C w) j p = (root b w, at w (operandOf A B C) (negationRow k))
   moveAt (exactly A es) j p = listMove A es j p
-  moveAt (interval A x y) j p = listMove A (entries x y) j p
+  moveAt (interval A x y es) j p = listMove A es j p
 
 -- the entries of a list or of an interval
 abbrev pub entriesOf : Constraint → List Term
@@ -94,7 +94,7 @@ entriesOf (different t u) = []
 entriesOf (relation k A B C) = []
 entriesOf (negation k A B C w) = []
 entriesOf (exactly A es) = es
-entriesOf (interval A i j) = entries i j
+entriesOf (interval A i j es) = es
 
 -- the positions of rule j, upward: the roots of n terms, or the root of the one term, or the entries
 module _ (n : ℕ) (b : Branch) where
@@ -109,7 +109,7 @@ module _ (n : ℕ) (b : Branch) where
   positions (relation k A B C) j = roots
   positions (negation k A B C w) j = rootAt b (w .index) ∷ []
   positions (exactly A es) j = cond (eqb j 19) (upFrom 0 (length es)) roots
-  positions (interval A x y) j = cond (eqb j 19) (upFrom 0 (length (entries x y))) roots
+  positions (interval A x y es) j = cond (eqb j 19) (upFrom 0 (length es)) roots
 
 -- the first position where rule j of a constraint applies
 abbrev pub firstAt : ℕ → Branch → Constraint → ℕ → Option ℕ

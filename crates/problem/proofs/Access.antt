@@ -24,7 +24,7 @@ use Rattle.calculus.proofs.Refuses.{refuses}
 use Rattle.problem.specs.declared.Table.{Table}
 use Rattle.questions.specs.Questions.{constantsOf, constantAt}
 use Rattle.problem.specs.Sections.{startsFrom, witnessesFrom, filled}
-use Rattle.problem.specs.Table.{headerLength, problemTable, tableIs, tableOf, Opened, Stands, valuesOf, constantOf, constraintsOf, noConstraint, constraintOf, kindOf, listed, witnessesOf, witnessOf}
+use Rattle.problem.specs.Table.{headerLength, problemTable, tableIs, tableOf, Opened, Stands, valuesOf, constantOf, constraintsOf, noConstraint, constraintOf, kindOf, witnessesOf, witnessOf}
 use Rattle.questions.proofs.Constants.{constant-at}
 use Rattle.problem.proofs.ConstraintSteps.{starts-length}
 
@@ -115,7 +115,7 @@ kind-first (relation subset A B C) = (_, refl)
 kind-first (relation intersection A B C) = (_, refl)
 kind-first (negation unequal A B C w) = (_, refl)
 kind-first (exactly A es) = (_, refl)
-kind-first (interval A i j) = (_, refl)
+kind-first (interval A i j es) = (_, refl)
 
 pub placed : (bs : List ℕ) (tab : Table) (i : ℕ) → Opened bs tab → i < tab .constraints → Placed bs tab i
 unfolding problemTable constraintOf constraintsOf
@@ -163,45 +163,54 @@ term-index : (es : List Term) → map term (map (λ (e : Term). e .index) es) �
 term-index [] = refl
 term-index (e ∷ es) = ap (λ (l : List Term). e ∷ l) (term-index es)
 
--- the bytes after a list's set are its count and its entries
-list-bytes : (l : Constraint) → kindOf l ≡ 11 → (A : ℕ) × (encodeConstraint l ≡ 11 ∷ A ∷ length (listed l) ∷ map (λ (e : Term). e .index) (listed l))
-list-bytes (member t A) e = absurd (omega arith)
-list-bytes (nonmember t A) e = absurd (omega arith)
-list-bytes (same t u) e = absurd (omega arith)
-list-bytes (different t u) e = absurd (omega arith)
-list-bytes (relation equal A B C) e = absurd (omega arith)
-list-bytes (relation union A B C) e = absurd (omega arith)
-list-bytes (relation disjoint A B C) e = absurd (omega arith)
-list-bytes (relation subset A B C) e = absurd (omega arith)
-list-bytes (relation intersection A B C) e = absurd (omega arith)
-list-bytes (negation unequal A B C w) e = absurd (omega arith)
-list-bytes (exactly A es) e = (A .index, refl)
-list-bytes (interval A i j) e = absurd (omega arith)
+-- a constraint of kind 11 is a list
+list-is : (l : Constraint) → kindOf l ≡ 11 → (A : SetVar) × (es : List Term) × (l ≡ exactly A es)
+list-is (member t A) e = absurd (omega arith)
+list-is (nonmember t A) e = absurd (omega arith)
+list-is (same t u) e = absurd (omega arith)
+list-is (different t u) e = absurd (omega arith)
+list-is (relation equal A B C) e = absurd (omega arith)
+list-is (relation union A B C) e = absurd (omega arith)
+list-is (relation disjoint A B C) e = absurd (omega arith)
+list-is (relation subset A B C) e = absurd (omega arith)
+list-is (relation intersection A B C) e = absurd (omega arith)
+list-is (negation unequal A B C w) e = absurd (omega arith)
+list-is (exactly A es) e = (A, es, refl)
+list-is (interval A i j es) e = absurd (omega arith)
 
 module _ (bs : List ℕ) (tab : Table) (i : ℕ) (h : Placed bs tab i) (k : kindOf (constraintOf bs i) ≡ 11) where
   abbrev from : ℕ
   from = getD (tab .offsets) i 0
 
+  abbrev A : SetVar
+  A = list-is (constraintOf bs i) k .0
+
+  abbrev list : List Term
+  list = list-is (constraintOf bs i) k .1
+
   abbrev es : List ℕ
-  es = map (λ (e : Term). e .index) (listed (constraintOf bs i))
+  es = map (λ (e : Term). e .index) list
 
-  from-bytes : (A : ℕ) × (drop from bs ≡ 11 ∷ A ∷ length (listed (constraintOf bs i)) ∷ (es ++ h .rest))
-  from-bytes = let b = list-bytes (constraintOf bs i) k in (b .0, h .here ∙ ap (λ (xs : List ℕ). xs ++ h .rest) (b .1))
+  -- the bytes after a list's set are its count and its entries
+  from-bytes : drop from bs ≡ 11 ∷ A .index ∷ length list ∷ (es ++ h .rest)
+  from-bytes = h .here ∙ ap (λ (l : Constraint). encodeConstraint l ++ h .rest) (list-is (constraintOf bs i) k .2)
 
-  pub list-count : getD bs (from + 2) 0 ≡ length (listed (constraintOf bs i))
-  list-count = sym (getD-drop from bs 2 0) ∙ ap (λ (xs : List ℕ). getD xs 2 0) (from-bytes .1)
+  list-count : getD bs (from + 2) 0 ≡ length list
+  list-count = sym (getD-drop from bs 2 0) ∙ ap (λ (xs : List ℕ). getD xs 2 0) from-bytes
 
   pub list-fits : (from + 2 < length bs) × (from + 3 + getD bs (from + 2) 0 ≤ length bs)
   list-fits =
-      let d : length bs - from ≡ 3 + length (es ++ h .rest) = sym (length-drop from bs) ∙ ap length (from-bytes .1) ∙ omega arith in
-      omega (arith, length-append es (h .rest), list-count, length-map (listed (constraintOf bs i)) (λ (e : Term). e .index))
+      let d : length bs - from ≡ 3 + length (es ++ h .rest) = sym (length-drop from bs) ∙ ap length from-bytes ∙ omega arith in
+      omega (arith, length-append es (h .rest), list-count, length-map list (λ (e : Term). e .index))
 
-  pub list-read : (r : List ℕ) → r ≡ take (from + 3 + getD bs (from + 2) 0 - (from + 3)) (drop (from + 3) bs) → map term r ≡ listed (constraintOf bs i)
+  pub list-read : (r : List ℕ) → r ≡ take (from + 3 + getD bs (from + 2) 0 - (from + 3)) (drop (from + 3) bs) → constraintOf bs i ≡ exactly (setVar (getD bs (from + 1) 0)) (map term r)
   list-read r e =
-      let n : from + 3 + getD bs (from + 2) 0 - (from + 3) ≡ length (listed (constraintOf bs i)) = omega (arith, list-count) in
-      let d : drop (from + 3) bs ≡ es ++ h .rest = sym (drop-drop 3 from bs) ∙ ap (drop 3) (from-bytes .1) in
-      let m : length es ≡ length (listed (constraintOf bs i)) = length-map (listed (constraintOf bs i)) (λ (e : Term). e .index) in
-      ap (map term) (e ∙ ap₂ (λ (x : ℕ) (y : List ℕ). take x y) n d ∙ take-at es (h .rest) (length (listed (constraintOf bs i))) m) ∙ term-index (listed (constraintOf bs i))
+      let n : from + 3 + getD bs (from + 2) 0 - (from + 3) ≡ length list = omega (arith, list-count) in
+      let d : drop (from + 3) bs ≡ es ++ h .rest = sym (drop-drop 3 from bs) ∙ ap (drop 3) from-bytes in
+      let m : length es ≡ length list = length-map list (λ (e : Term). e .index) in
+      let q : map term r ≡ list = ap (map term) (e ∙ ap₂ (λ (x : ℕ) (y : List ℕ). take x y) n d ∙ take-at es (h .rest) (length list) m) ∙ term-index list in
+      let s : getD bs (from + 1) 0 ≡ A .index = sym (getD-drop from bs 1 0) ∙ ap (λ (xs : List ℕ). getD xs 1 0) from-bytes in
+      list-is (constraintOf bs i) k .2 ∙ ap₂ (λ (x : ℕ) (l : List Term). exactly (setVar x) l) (sym s) (sym q)
 
 -- the same of a constraint that stands at an offset
 module _ (bs : List ℕ) (i at : ℕ) (s : Stands bs i at) where
@@ -212,8 +221,8 @@ module _ (bs : List ℕ) (i at : ℕ) (s : Stands bs i at) where
     pub entries-fit : (at + 2 < length bs) × (at + 3 + getD bs (at + 2) 0 ≤ length bs)
     entries-fit = subst (λ (x : ℕ). (x + 2 < length bs) × (x + 3 + getD bs (x + 2) 0 ≤ length bs)) (sym (s .offset)) (list-fits bs (s .tab) i place-of k)
 
-    pub entries-read : (r : List ℕ) → r ≡ take (at + 3 + getD bs (at + 2) 0 - (at + 3)) (drop (at + 3) bs) → map term r ≡ listed (constraintOf bs i)
-    entries-read = subst (λ (x : ℕ). (r : List ℕ) → r ≡ take (x + 3 + getD bs (x + 2) 0 - (x + 3)) (drop (x + 3) bs) → map term r ≡ listed (constraintOf bs i)) (sym (s .offset)) (list-read bs (s .tab) i place-of k)
+    pub entries-read : (r : List ℕ) → r ≡ take (at + 3 + getD bs (at + 2) 0 - (at + 3)) (drop (at + 3) bs) → constraintOf bs i ≡ exactly (setVar (getD bs (at + 1) 0)) (map term r)
+    entries-read = subst (λ (x : ℕ). (r : List ℕ) → r ≡ take (x + 3 + getD bs (x + 2) 0 - (x + 3)) (drop (x + 3) bs) → constraintOf bs i ≡ exactly (setVar (getD bs (x + 1) 0)) (map term r)) (sym (s .offset)) (list-read bs (s .tab) i place-of k)
 
 -- ---- the witnesses
 

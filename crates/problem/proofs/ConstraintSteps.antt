@@ -14,7 +14,7 @@ use Rattle.calculus.specs.Lists.{all}
 use Rattle.calculus.specs.Terms.{SetVar, term, setVar}
 use Rattle.calculus.specs.Relations.{union, intersection, unequal}
 use Rattle.calculus.specs.Meaning.{Constraint, member, nonmember, same, different, relation, negation, exactly, interval}
-use Rattle.calculus.specs.Problem.{Rising, uses}
+use Rattle.calculus.specs.Problem.{Rising, entries, uses}
 use Rattle.calculus.specs.Encoding.{encodeConstraint}
 use Rattle.calculus.specs.Reading.{Parsed, parsed, refused, _>>=_, ask, byte, bytes, gapless, Parser, refuse, two, three, ofList, ofInterval, kinds, constraint, constraints}
 use Rattle.calculus.proofs.Words.{words-length}
@@ -34,7 +34,7 @@ retie w (different t u) = different t u
 retie w (relation k A B C) = relation k A B C
 retie w (negation k A B C u) = negation k A B C (term w)
 retie w (exactly A es) = exactly A es
-retie w (interval A i j) = interval A i j
+retie w (interval A i j es) = interval A i j es
 
 retie-uses : (w : ℕ) (l : Constraint) → uses (retie w l) ≡ uses l
 retie-uses w (member t A) = refl
@@ -44,7 +44,7 @@ retie-uses w (different t u) = refl
 retie-uses w (relation k A B C) = refl
 retie-uses w (negation k A B C u) = refl
 retie-uses w (exactly A es) = refl
-retie-uses w (interval A i j) = refl
+retie-uses w (interval A i j es) = refl
 
 retie-bytes : (w : ℕ) (l : Constraint) → encodeConstraint (retie w l) ≡ encodeConstraint l
 retie-bytes w (member t A) = refl
@@ -54,7 +54,7 @@ retie-bytes w (different t u) = refl
 retie-bytes w (relation k A B C) = refl
 retie-bytes w (negation unequal A B C u) = refl
 retie-bytes w (exactly A es) = refl
-retie-bytes w (interval A i j) = refl
+retie-bytes w (interval A i j es) = refl
 
 pub uses-one : (l : Constraint) → uses l ≤ 1
 uses-one (member t A) = omega arith
@@ -64,7 +64,7 @@ uses-one (different t u) = omega arith
 uses-one (relation k A B C) = omega arith
 uses-one (negation k A B C u) = omega arith
 uses-one (exactly A es) = omega arith
-uses-one (interval A i j) = omega arith
+uses-one (interval A i j es) = omega arith
 
 module _ (cs : List ℤ) (N S w : ℕ) where
   abbrev tied : Parsed (Constraint × List ℕ) → Parsed (Constraint × List ℕ)
@@ -120,7 +120,7 @@ module _ (cs : List ℤ) (N S w : ℕ) where
   like-interval (x ∷ i ∷ []) = refl
   like-interval (x ∷ i ∷ j ∷ r) = go (ltb x S && ltb i N && ltb j N) (ltb i (length cs) && ltb j (length cs) && gapless cs i j)
     where
-      go : (t u : Bool) → (ask 8 t >>= λ _. ask 9 u >>= λ _. parsed (interval (setVar x) (term i) (term j), r)) ≡ tied (ask 8 t >>= λ _. ask 9 u >>= λ _. parsed (interval (setVar x) (term i) (term j), r))
+      go : (t u : Bool) → (ask 8 t >>= λ _. ask 9 u >>= λ _. parsed (interval (setVar x) (term i) (term j) (entries (term i) (term j)), r)) ≡ tied (ask 8 t >>= λ _. ask 9 u >>= λ _. parsed (interval (setVar x) (term i) (term j) (entries (term i) (term j)), r))
       go true true = refl
       go true false = refl
       go false u = refl

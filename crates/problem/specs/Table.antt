@@ -98,18 +98,7 @@ kindOf (relation disjoint A B C) = 8
 kindOf (relation subset A B C) = 9
 kindOf (relation intersection A B C) = 10
 kindOf (exactly A es) = 11
-kindOf (interval A i j) = 12
-
--- the entries of a list constraint
-abbrev pub listed : Constraint → List Term
-listed (member t A) = []
-listed (nonmember t A) = []
-listed (same t u) = []
-listed (different t u) = []
-listed (relation k A B C) = []
-listed (negation k A B C w) = []
-listed (exactly A es) = es
-listed (interval A i j) = []
+kindOf (interval A i j es) = 12
 
 -- the term number of constraint i's witness; where it has none, of the next one
 unfoldable pub witnessesOf : Parsed Problem → List ℕ

@@ -12,13 +12,14 @@ use terms::MOST_TERMS;
 ghost use mathlib.Core.Path.{_≡_};
 ghost use mathlib.Core.List.{map};
 ghost use Prim.Native.Nat.{_+_, _*_, _≤_, _<_};
-ghost use lib.ListN.{length, drop};
+ghost use lib.ListN.{length, getD, drop};
 ghost use Rattle.calculus.specs.Limits.{mostBytes, mostSets};
-ghost use Rattle.calculus.specs.Terms.{term};
+ghost use Rattle.calculus.specs.Terms.{term, setVar};
+ghost use Rattle.calculus.specs.Meaning.{exactly};
 ghost use Rattle.calculus.specs.Reading.{readConstraints};
 ghost use Rattle.questions.specs.Questions.{ConstantsRise, constantsOf};
 ghost use Rattle.problem.specs.Sections.{variablesOf, setsOf};
-ghost use Rattle.problem.specs.Table.{tableOf, tableIs, refusedTable, Stands, kindOf, constraintOf, listed};
+ghost use Rattle.problem.specs.Table.{tableOf, tableIs, refusedTable, Stands, kindOf, constraintOf};
 
 // A problem's table (specs/Table.antt says what it holds). Nothing else is kept: all is read from the problem's bytes.
 pub struct Table {
@@ -130,7 +131,7 @@ pub fn read(problem: &[u8]) -> Table
 // The entries of list constraint i, which stands at an offset: the part of the problem that has them.
 pub fn entries(problem: &[u8], i: usize, at: usize) -> &[u8]
     requires { ⌜ Stands (now problem) i at × (kindOf (constraintOf (now problem) i) ≡ 11) ⌝ }
-    ensures { λ r. ⌜ map term (now r) ≡ listed (constraintOf (now (problem .entry)) i) ⌝ }
+    ensures { λ r. ⌜ constraintOf (now (problem .entry)) i ≡ exactly (setVar (getD (now (problem .entry)) (at + 1) 0)) (map term (now r)) ⌝ }
 {
     let a = at + 3;
     let e = a + problem[at + 2] as usize;

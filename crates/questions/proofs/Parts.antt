@@ -15,7 +15,7 @@ use Rattle.calculus.specs.Lists.{all}
 use Rattle.calculus.specs.Terms.{SetVar, term, setVar}
 use Rattle.calculus.specs.Relations.{union, intersection}
 use Rattle.calculus.specs.Meaning.{Constraint, relation, exactly, interval}
-use Rattle.calculus.specs.Problem.{uses}
+use Rattle.calculus.specs.Problem.{entries, uses}
 use Rattle.calculus.specs.Reading.{parsed, _>>=_, ask, byte, bytes, gapless, Parser, refuse, two, three, ofList, ofInterval, kinds, constraint}
 use Rattle.questions.specs.declared.Parsed.{Parsed}
 use Rattle.questions.specs.Questions.{constantsOf, refusedBy, acceptedTo, parsedOf, twoAt, threeAt, listAt, intervalAt}
@@ -138,7 +138,7 @@ module _ (k N S : ℕ) (bs : List ℕ) (at : ℕ) (room : 1 + 2 * k ≤ length b
           let v : List ℕ = x ∷ i ∷ j ∷ u in
           let h : length bs - at ≡ suc (suc (suc (length u))) = left-length bs at v e in
           rw (le-leb (at + 3) (length bs) (omega arith), left-first bs at v e, left-at bs at v e 1, left-at bs at v e 2, constants-length bs k room)
-          (asked-twice (length bs) (at + 3) 0 (interval (setVar x) (term i) (term j)) u (omega arith) refl 8 9 (ltb x S && ltb i N && ltb j N) (ltb i k && ltb j k && gapless cs i j)
+          (asked-twice (length bs) (at + 3) 0 (interval (setVar x) (term i) (term j) (entries (term i) (term j))) u (omega arith) refl 8 9 (ltb x S && ltb i N && ltb j N) (ltb i k && ltb j k && gapless cs i j)
           ∙ turned (ltb x S && ltb i N && ltb j N) (ltb i k && ltb j k && gapless cs i j))
 
 -- ---- the kinds

@@ -13,7 +13,7 @@ use Rattle.calculus.specs.Limits.{mostSets}
 use Rattle.calculus.specs.Lists.{upFrom, any, first, bit, Each}
 use Rattle.calculus.specs.Terms.{Term, SetVar, term}
 use Rattle.calculus.specs.Relations.{Rule, Literal, Relation, applies, propagation, negationRow, operandOf, unequal}
-use Rattle.calculus.specs.Meaning.{Constraint, member, nonmember, same, different, relation, negation, exactly, interval, entries}
+use Rattle.calculus.specs.Meaning.{Constraint, member, nonmember, same, different, relation, negation, exactly, interval}
 use Rattle.calculus.specs.Branch.{Branch, rootAt, In, Out, Same, known}
 use Rattle.calculus.specs.Invariants.{ConstraintIn}
 use Rattle.calculus.specs.Search.{Move, at, choose}
@@ -101,7 +101,7 @@ module _ {b c : Branch} {lo hi word : ℕ} (g : Grows b c lo hi word) where
     kept (relation k A B C) j s o = relation-kept k A B C j s o
     kept (negation unequal A B C w) j s o = term-kept (at w (operandOf A B C) (negationRow unequal)) w (tabled A B C (negationRow unequal)) refl (λ x. tabled-said x (w .index) (rootAt x (w .index)) refl A B C (s .in-range .0) (negationRow unequal))
     kept (exactly A es) j s o = list-kept A es j s o
-    kept (interval A x y) j s o = list-kept A (entries x y) j (record { in-range = s .in-range; unneeded = s .unneeded; unpaired = s .unpaired }) o
+    kept (interval A x y es) j s o = list-kept A es j (record { in-range = s .in-range; unneeded = s .unneeded; unpaired = s .unpaired }) o
 
   pub idle-kept : {n : ℕ} {l : Constraint} → Spared n l lo hi word → (split : Bool) → Idle split n b l → Idle split n c l
   idle-kept {n} {l} s false i j o = kept n l j s (inl o) (i j o)

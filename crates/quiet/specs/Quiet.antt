@@ -34,7 +34,7 @@ needs (different t u) j k = false
 needs (relation r A B C) j k = any (λ (x : Literal). eqb (numberOf (operandOf (A .index) (B .index) (C .index)) x) k) (rowOf r j .premises)
 needs (negation r A B C w) j k = false
 needs (exactly A es) j k = eqb j 20 && eqb (A .index) k
-needs (interval A x y) j k = eqb j 20 && eqb (A .index) k
+needs (interval A x y es) j k = eqb j 20 && eqb (A .index) k
 
 -- rule j needs two facts of one class: a merge of two classes can make it apply
 abbrev pub pairs : Constraint → ℕ → Bool
@@ -45,7 +45,7 @@ pairs (different t u) j = true
 pairs (relation r A B C) j = ltb 1 (length (rowOf r j .premises))
 pairs (negation r A B C w) j = false
 pairs (exactly A es) j = false
-pairs (interval A x y) j = false
+pairs (interval A x y es) j = false
 
 -- Marks of a constraint: the literals that it needs, then three more: a rule of it needs two facts of one class; it may rest; it has a split.
 abbrev pub pairMark : ℕ

@@ -232,30 +232,29 @@ module _ (n : ℕ) (b : Branch) (rows : List ℕ) (of : RowsOf b rows) (fall : F
 each-term : (n : ℕ) (es : List ℕ) → Each (λ (e : Term). e .index < n) (map term es) → Each (λ e. e < n) es
 each-term n = map-Each (λ (e : Term). e .index < n) term
 
-fits-of : (n : ℕ) (b : Branch) (rows es : List ℕ) (j : ℕ) → RowsOf b rows → Falls (b .parents) → n ≤ mostTerms → (l : Coded) → entriesOf (decoded (map term es) l) ≡ map term es → ConstraintIn n mostSets (decoded (map term es) l) → RuleOf (decoded (map term es) l) j → (w : ℕ) → IsWord (b .parents) rows es j l w → Fits n b (decoded (map term es) l) j w
-fits-of n b rows es j of fall few (Member t A) q c r w i =
+fits-of : (n : ℕ) (b : Branch) (rows es : List ℕ) (j : ℕ) → RowsOf b rows → Falls (b .parents) → n ≤ mostTerms → (l : Coded) → ConstraintIn n mostSets (decoded (map term es) l) → RuleOf (decoded (map term es) l) j → (w : ℕ) → IsWord (b .parents) rows es j l w → Fits n b (decoded (map term es) l) j w
+fits-of n b rows es j of fall few (Member t A) c r w i =
     one-but n b rows of fall few (member (term (t .0)) (setVar (A .0))) j (t .0) (c .0) refl (λ p. refl) (getD rows (A .0) 0) (of .small (A .0) (omega (arith, c .1))) _ (row-at n b rows of fall few (A .0) (t .0) (omega (arith, c .1)) (c .0))
     (once (calculus.known b (In (term (t .0)) (setVar (A .0)))) ∙ ap not (known-in b (t .0) (rootOf (b .parents) (t .0)) (root-is b (t .0)) (setVar (A .0)) (c .1))) w i
-fits-of n b rows es j of fall few (Nonmember t A) q c r w i =
+fits-of n b rows es j of fall few (Nonmember t A) c r w i =
     one-but n b rows of fall few (nonmember (term (t .0)) (setVar (A .0))) j (t .0) (c .0) refl (λ p. refl) (getD rows (mostSets + A .0) 0) (of .small (mostSets + A .0) (omega (arith, c .1))) _ (row-at n b rows of fall few (mostSets + A .0) (t .0) (omega (arith, c .1)) (c .0))
     (once (calculus.known b (Out (term (t .0)) (setVar (A .0)))) ∙ ap not (known-out b (t .0) (rootOf (b .parents) (t .0)) (root-is b (t .0)) (setVar (A .0)) (c .1))) w i
-fits-of n b rows es j of fall few (Equated t u) q c r w i =
+fits-of n b rows es j of fall few (Equated t u) c r w i =
     one-but n b rows of fall few (same (term (t .0)) (term (u .0))) j (t .0) (c .0) refl (λ p. refl) (2 ^ rootOf (b .parents) (u .0)) (pow-lt (low64 n b rows of fall few (u .0) (c .1))) _ (bit-pow (rootOf (b .parents) (u .0)) (rootOf (b .parents) (t .0)))
     (once (eqb (rootAt b (t .0)) (rootAt b (u .0))) ∙ ap₂ (λ (x y : ℕ). not (eqb x y)) (root-is b (t .0)) (root-is b (u .0))) w i
-fits-of n b rows es j of fall few (Different t u) q c r w i =
+fits-of n b rows es j of fall few (Different t u) c r w i =
     one-at n b rows of fall few (different (term (t .0)) (term (u .0))) j (t .0) (c .0) refl (λ p. refl) (eqb (rootOf (b .parents) (t .0)) (rootOf (b .parents) (u .0)))
     (and-true _ ∙ and-true _ ∙ ap₂ eqb (root-is b (t .0)) (root-is b (u .0))) w
     (λ h. ap (λ (x : ℕ). bit x h) i ∙ bit-and (2 ^ rootOf (b .parents) (t .0)) (2 ^ rootOf (b .parents) (u .0)) h ∙ ap₂ _&&_ (bit-pow (rootOf (b .parents) (t .0)) h) (bit-pow (rootOf (b .parents) (u .0)) h) ∙ at-one (λ k. eqb k (rootOf (b .parents) (u .0))) h (rootOf (b .parents) (t .0)))
-fits-of n b rows es j of fall few (Related k A B C) q c r w i = go (splitting j) refl
+fits-of n b rows es j of fall few (Related k A B C) c r w i = go (splitting j) refl
   where
     go : (x : Bool) → splitting j ≡ x → Fits n b (relation (relationOf k) (setVar (A .0)) (setVar (B .0)) (setVar (C .0))) j w
     go true z = divided-fits n b rows of fall few (relationOf k) (setVar (A .0)) (setVar (B .0)) (setVar (C .0)) j r c z w (i .1 z)
     go false z = forced-fits n b rows of fall few (relationOf k) (setVar (A .0)) (setVar (B .0)) (setVar (C .0)) j r c z w (i .0 z)
-fits-of n b rows es j of fall few (Negated k A B C x) q c r w i = denied-fits n b rows of fall few (negationOf k) (setVar (A .0)) (setVar (B .0)) (setVar (C .0)) (x .0) j (c .0) (c .1) w i
-fits-of n b rows es j of fall few (Exactly A) q c r w i = list-fits n b rows of fall few (setVar (A .0)) (c .0) (exactly (setVar (A .0)) (map term es)) j es (each-term n es (c .1)) w i (λ p. refl) refl
-fits-of n b rows es j of fall few (Interval A x y) q c r w i =
-    list-fits n b rows of fall few (setVar (A .0)) (c .0) (interval (setVar (A .0)) (term (x .0)) (term (y .0))) j es (each-term n es (subst (Each (λ (e : Term). e .index < n)) q (c .1))) w i
-    (λ p. ap (λ (ts : List Term). listMove b (setVar (A .0)) ts j p) q) (ap (λ (ts : List Term). cond (eqb j 19) (upFrom 0 (length ts)) (roots n b)) q)
+fits-of n b rows es j of fall few (Negated k A B C x) c r w i = denied-fits n b rows of fall few (negationOf k) (setVar (A .0)) (setVar (B .0)) (setVar (C .0)) (x .0) j (c .0) (c .1) w i
+fits-of n b rows es j of fall few (Exactly A) c r w i = list-fits n b rows of fall few (setVar (A .0)) (c .0) (exactly (setVar (A .0)) (map term es)) j es (each-term n es (c .1)) w i (λ p. refl) refl
+fits-of n b rows es j of fall few (Interval A x y) c r w i =
+    list-fits n b rows of fall few (setVar (A .0)) (c .0) (interval (setVar (A .0)) (term (x .0)) (term (y .0)) (map term es)) j es (each-term n es (c .1)) w i (λ p. refl) refl
 
 -- for the code: l is what was matched as m
 module _ {es : List ℕ} {word j : ℕ} {l m : Coded} (e : l ≡ m) (q : Asked es word l j) where
@@ -264,7 +263,7 @@ module _ {es : List ℕ} {word j : ℕ} {l m : Coded} (e : l ≡ m) (q : Asked e
 
   pub fits-right : (ps rows : List ℕ) → Lent ps rows → (w : ℕ) → IsWord ps rows es j m w → FitsFor ps rows es l j w
   fits-right ps rows lent w i n b few c s =
-      fits-of n b rows es j (s .rows-are) (subst Falls (sym (s .parents-are)) (lent .rooted .falls)) few l (q .handled .entries-are) c (q .of-rule) w
+      fits-of n b rows es j (s .rows-are) (subst Falls (sym (s .parents-are)) (lent .rooted .falls)) few l c (q .of-rule) w
       (subst (λ (x : Coded). IsWord (b .parents) rows es j x w) (sym e) (subst (λ (qs : List ℕ). IsWord qs rows es j m w) (sym (s .parents-are)) i))
 
 -- what row_of, split_of and denial_of answer makes the right words
@@ -293,7 +292,7 @@ entries-in n (different t u) c = tt
 entries-in n (relation k A B C) c = tt
 entries-in n (negation k A B C w) c = tt
 entries-in n (exactly A es) c = c .1
-entries-in n (interval A x y) c = c .1
+entries-in n (interval A x y es) c = c .1
 
 pub entries-low : (n : ℕ) (es : List ℕ) (l : Coded) → Handled es l → ConstraintIn n mostSets (decoded (map term es) l) → Each (λ e. e < n) es
 entries-low n es l h c = each-term n es (subst (Each (λ (e : Term). e .index < n)) (h .entries-are) (entries-in n (decoded (map term es) l) c))

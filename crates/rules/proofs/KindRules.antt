@@ -27,7 +27,7 @@ spans false (relation disjoint A B C) = refl
 spans false (relation subset A B C) = refl
 spans false (relation intersection A B C) = refl
 spans false (exactly A es) = refl
-spans false (interval A x y) = refl
+spans false (interval A x y es) = refl
 spans true (member t A) = refl
 spans true (nonmember t A) = refl
 spans true (same t u) = refl
@@ -39,7 +39,7 @@ spans true (relation disjoint A B C) = refl
 spans true (relation subset A B C) = refl
 spans true (relation intersection A B C) = refl
 spans true (exactly A es) = refl
-spans true (interval A x y) = refl
+spans true (interval A x y es) = refl
 
 same-pair : (x y : ℕ × ℕ) → x ≡ y → (x .0 ≡ y .0) × (x .1 ≡ y .1)
 same-pair x y e = (ap (λ (z : ℕ × ℕ). z .0) e, ap (λ (z : ℕ × ℕ). z .1) e)
@@ -65,7 +65,7 @@ split-other (relation disjoint A B C) kind n e = refl
 split-other (relation subset A B C) kind n e = refl
 split-other (relation intersection A B C) kind n e = refl
 split-other (exactly A es) kind n e = absurd (n .0 .1 (sym e))
-split-other (interval A x y) kind n e = absurd (n .1 (sym e))
+split-other (interval A x y es) kind n e = absurd (n .1 (sym e))
 
 propagation-other : (l : Constraint) (kind : ℕ) → Not kind (12 ∷ 11 ∷ 10 ∷ 9 ∷ 8 ∷ 7 ∷ 5 ∷ 4 ∷ 3 ∷ 2 ∷ 1 ∷ []) → kindOf l ≡ kind → propagationSpan l ≡ (0, 0)
 propagation-other (member t A) kind n e = absurd (n .0 .0 .0 .0 .0 .0 .0 .0 .0 .0 .1 (sym e))
@@ -79,7 +79,7 @@ propagation-other (relation disjoint A B C) kind n e = absurd (n .0 .0 .0 .0 .1 
 propagation-other (relation subset A B C) kind n e = absurd (n .0 .0 .0 .1 (sym e))
 propagation-other (relation intersection A B C) kind n e = absurd (n .0 .0 .1 (sym e))
 propagation-other (exactly A es) kind n e = absurd (n .0 .1 (sym e))
-propagation-other (interval A x y) kind n e = absurd (n .1 (sym e))
+propagation-other (interval A x y es) kind n e = absurd (n .1 (sym e))
 
 pub split-none : (split : Bool) → split ≡ true → (kind : ℕ) → Not kind (12 ∷ 11 ∷ 7 ∷ 6 ∷ []) → Spanned split kind 0 0
 split-none split e kind n l h = rw e (same-pair (0, 0) (splitSpan l) (sym (split-other l kind n h)))

@@ -58,7 +58,7 @@ spans (calculus.relation subset A B C) = (omega arith, omega arith)
 spans (calculus.relation intersection A B C) = (omega arith, omega arith)
 spans (calculus.negation k A B C w) = (omega arith, omega arith)
 spans (calculus.exactly A es) = (omega arith, omega arith)
-spans (calculus.interval A x y) = (omega arith, omega arith)
+spans (calculus.interval A x y es) = (omega arith, omega arith)
 
 -- a propagation rule or a split is a rule of the constraint, and is not rule 0
 pub rule-of : (split : Bool) (l : calculus.Constraint) (j : ℕ) → InSpan (spanOf split l) j → RuleOf l j
@@ -85,7 +85,7 @@ module _ (n : ℕ) (b : Branch) (fall : Falls (b .parents)) where
   entry-root (calculus.relation k A B C) j p r e = absurd (relation-19 k A B C j r e)
   entry-root (calculus.negation k A B C w) j p r e = root-root (w .index)
   entry-root (calculus.exactly A es) j p r e = rw (eq-eqb j 19 e) (root-root (getD es p (term 0) .index))
-  entry-root (calculus.interval A x y) j p r e = rw (eq-eqb j 19 e) (root-root (getD (calculus.entries x y) p (term 0) .index))
+  entry-root (calculus.interval A x y es) j p r e = rw (eq-eqb j 19 e) (root-root (getD es p (term 0) .index))
 
   concerned-root : (l : calculus.Constraint) (j p : ℕ) → n ≤ mostTerms → ConstraintIn mostTerms mostSets l → RuleOf l j → firstAt n b l j ≡ some p → rootAt b (moveAt b l j p .0 .index) ≡ moveAt b l j p .0 .index
   concerned-root l j p few c r f = go (ℕ-discrete j 19)

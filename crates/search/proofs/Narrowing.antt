@@ -16,7 +16,7 @@ use Rattle.calculus.specs.Limits.{mostSets, mostTerms}
 use Rattle.calculus.specs.Lists.{upFrom, all, any, bit, Each}
 use Rattle.calculus.specs.Terms.{Term, SetVar, term, setVar}
 use Rattle.calculus.specs.Relations.{applies, propagation}
-use Rattle.calculus.specs.Meaning.{Constraint, different, exactly, interval, entries}
+use Rattle.calculus.specs.Meaning.{Constraint, different, exactly, interval}
 use Rattle.calculus.specs.Branch.{Branch, rootAt, In, known}
 use Rattle.calculus.specs.Invariants.{ConstraintIn}
 use Rattle.calculus.specs.Search.{choose}
@@ -26,7 +26,7 @@ use Rattle.calculus.proofs.SearchLaws.{first-next}
 use Rattle.calculus.proofs.Sequences.{up-each, keep-each}
 use Rattle.bits.proofs.Bits.{bit-and, bit-pow, bit-without, bit-zero, no-bit}
 use Rattle.bits.proofs.Count.{lowest-set, bit-less, less-lt}
-use Rattle.problem.specs.Table.{constraintsOf, constraintOf, noConstraint, listed}
+use Rattle.problem.specs.Table.{constraintsOf, constraintOf, noConstraint}
 use Rattle.branch.specs.Held.{rootOf}
 use Rattle.branch.specs.Rows as rows
 use Rattle.branch.proofs.Roots.{root-is}
@@ -106,11 +106,11 @@ module _ (n : ℕ) (b : Branch) (few : n ≤ mostTerms) (A : SetVar) (low : A .i
 -- ---- constraint i as it is decoded
 
 -- what one test shows to be at rest is idle
-pub rest-idle : {bs offsets witnesses words : List ℕ} {ps lines : List ℕ} {i : ℕ} (split : Bool) (l : Coded) → Turn bs offsets witnesses i → WordsOf (constraintsOf (read bs)) words → constraintOf bs i ≡ decoded (listed (constraintOf bs i)) l → restsBy ps lines (getD words i 0) split l ≡ true
+pub rest-idle : {bs offsets witnesses words : List ℕ} {ps lines : List ℕ} {i : ℕ} (split : Bool) (l : Coded) → Turn bs offsets witnesses i → WordsOf (constraintsOf (read bs)) words → constraintOf bs i ≡ decoded (entriesOf (constraintOf bs i)) l → restsBy ps lines (getD words i 0) split l ≡ true
     → (n : ℕ) (b : Branch) → n ≤ mostTerms → Shown b ps lines → Idle split n b (getD (constraintsOf (read bs)) i noConstraint)
 unfolding constraintOf unsharedOf
 rest-idle {bs} {offsets} {words = words} {ps} {lines} {i} split l t w is rest n b few s =
-    subst (λ (x : Constraint). ConstraintIn mostTerms mostSets x → ((h : ℕ) → bit word h ≡ any (λ (e : Term). eqb (e .index) h) (entriesOf x)) → Idle split n b x) (sym is) (go l (listed (constraintOf bs i)) rest) (in-range bs i (getD offsets i 0) (t .stands)) (w .entries i (t .in-problem))
+    subst (λ (x : Constraint). ConstraintIn mostTerms mostSets x → ((h : ℕ) → bit word h ≡ any (λ (e : Term). eqb (e .index) h) (entriesOf x)) → Idle split n b x) (sym is) (go l (entriesOf (constraintOf bs i)) rest) (in-range bs i (getD offsets i 0) (t .stands)) (w .entries i (t .in-problem))
   where
     word : ℕ
     word = getD words i 0
@@ -123,9 +123,9 @@ rest-idle {bs} {offsets} {words = words} {ps} {lines} {i} split l t w is rest n 
     list true A ts c d f k j v = let z : j ≡ 20 = omega (arith, v .0, v .1) in subst (λ (m : ℕ). firstAt n b (exactly (setVar (A .0)) ts) m ≡ none) (sym z) (idle-20 n b few (setVar (A .0)) c ts lines (s .rows-are) word (w .small i (t .in-problem)) f (eqb-true _ 0 k))
     list false A ts c d f k j v = let z : j ≡ 19 = omega (arith, v .0, v .1) in subst (λ (m : ℕ). firstAt n b (exactly (setVar (A .0)) ts) m ≡ none) (sym z) (idle-19 n b few (setVar (A .0)) c ts lines (s .rows-are) word (w .small i (t .in-problem)) f d (eqb-true _ 0 k))
 
-    interval-is : (y : Bool) (A : CodedSet) (p q : Term) → ((j : ℕ) → InSpan (spanOf y (exactly (setVar (A .0)) (entries p q))) j → firstAt n b (exactly (setVar (A .0)) (entries p q)) j ≡ none) → Idle y n b (interval (setVar (A .0)) p q)
-    interval-is true A p q h j v = h j v
-    interval-is false A p q h j v = h j v
+    interval-is : (y : Bool) (A : CodedSet) (p q : Term) (ts : List Term) → Idle y n b (exactly (setVar (A .0)) ts) → Idle y n b (interval (setVar (A .0)) p q ts)
+    interval-is true A p q ts h j v = h j v
+    interval-is false A p q ts h j v = h j v
 
     go : (m : Coded) (ts : List Term) → restsBy ps lines word split m ≡ true → ConstraintIn mostTerms mostSets (decoded ts m) → ((h : ℕ) → bit word h ≡ any (λ (e : Term). eqb (e .index) h) (entriesOf (decoded ts m))) → Idle split n b (decoded ts m)
     go (Member x A) ts k c f j v = absurd (false≢true k)
@@ -135,7 +135,7 @@ rest-idle {bs} {offsets} {words = words} {ps} {lines} {i} split l t w is rest n 
     go (Related r A B C) ts k c f j v = absurd (false≢true k)
     go (Negated r A B C x) ts k c f j v = absurd (false≢true k)
     go (Exactly A) ts k c f j v = list split A ts (c .0) (c .1) f k j v
-    go (Interval A x y) ts k c f j v = interval-is split A (term (x .0)) (term (y .0)) (list split A (entries (term (x .0)) (term (y .0))) (c .0) (c .1) f k) j v
+    go (Interval A x y) ts k c f j v = interval-is split A (term (x .0)) (term (y .0)) ts (list split A ts (c .0) (c .1) f k) j v
 
 -- its operands are in range, whatever its entries are
 pub unlisted-in : (l : Coded) (ts : List Term) → ConstraintIn mostTerms mostSets (decoded ts l) → ConstraintIn mostTerms mostSets (decoded [] l)
@@ -146,7 +146,7 @@ unlisted-in (Different t u) ts c = c
 unlisted-in (Related k A B C) ts c = c
 unlisted-in (Negated k A B C w) ts c = c
 unlisted-in (Exactly A) ts c = (c .0, tt)
-unlisted-in (Interval A x y) ts c = c
+unlisted-in (Interval A x y) ts c = (c .0, tt)
 
 -- ---- masks
 

@@ -22,8 +22,8 @@ use Rattle.calculus.specs.Meaning.{Constraint, relation}
 use Rattle.calculus.specs.Invariants.{ConstraintIn}
 use Rattle.calculus.proofs.Bools.{clash, and-l, and-r, or-cases, or-l, or-r, imp-at, not-t}
 use Rattle.bits.proofs.Bits.{bit-or, bit-pow}
-use Rattle.problem.specs.Table.{Stands, constraintOf, kindOf, listed}
-use Rattle.places.specs.Places.{spanOf, propagationSpan, splitSpan, InSpan, RuleOf, rowOf}
+use Rattle.problem.specs.Table.{Stands, constraintOf, kindOf}
+use Rattle.places.specs.Places.{spanOf, propagationSpan, splitSpan, InSpan, RuleOf, rowOf, entriesOf}
 use Rattle.terms.specs.declared.SetVar.{SetVar as CodedSet}
 use Rattle.terms.specs.declared.Term.{Term as CodedTerm}
 use Rattle.constraints.specs.declared.Relation.{Relation as CodedRelation}
@@ -178,14 +178,14 @@ unsplit : {P : Type 0} (j : ℕ) → InSpan (0, 0) j → P
 unsplit j v = absurd (omega (arith, v .1))
 
 -- constraint i as it is decoded
-module _ {bs : List ℕ} {i at : ℕ} (l : Coded) (d : Stands bs i at × (constraintOf bs i ≡ decoded (listed (constraintOf bs i)) l)) where
+module _ {bs : List ℕ} {i at : ℕ} (l : Coded) (d : Stands bs i at × (constraintOf bs i ≡ decoded (entriesOf (constraintOf bs i)) l)) where
   abbrev own : Constraint
   own = constraintOf bs i
 
-  matched : {m : Coded} → l ≡ m → own ≡ decoded (listed own) m
-  matched e = d .1 ∙ ap (decoded (listed own)) e
+  matched : {m : Coded} → l ≡ m → own ≡ decoded (entriesOf own) m
+  matched e = d .1 ∙ ap (decoded (entriesOf own)) e
 
-  pub range : {m : Coded} → l ≡ m → ConstraintIn mostTerms mostSets (decoded (listed own) m)
+  pub range : {m : Coded} → l ≡ m → ConstraintIn mostTerms mostSets (decoded (entriesOf own) m)
   range e = subst (ConstraintIn mostTerms mostSets) (matched e) (in-range bs i at (d .0))
 
   pub different-needs : {t u : CodedTerm} → l ≡ Different t u → {v w : ℕ} → v ≡ 2 ^ pairMark → w ≡ 2 ^ restMark → NeedsOf own (bitOr v w)
@@ -262,7 +262,7 @@ module _ {bs : List ℕ} {i at : ℕ} (l : Coded) (d : Stands bs i at × (constr
 
   -- any other constraint has no split, and no rule that needs a literal
   pub others-need : OneOf (0 ∷ 1 ∷ 2 ∷ []) (tagOf the-type l) → NeedsOf own 0
-  others-need o = subst (λ (x : Constraint). NeedsOf x 0) (sym (d .1)) (go l o (listed own))
+  others-need o = subst (λ (x : Constraint). NeedsOf x 0) (sym (d .1)) (go l o (entriesOf own))
     where
       go : (m : Coded) → OneOf (0 ∷ 1 ∷ 2 ∷ []) (tagOf the-type m) → (es : List Term) → NeedsOf (decoded es m) 0
       go (Member t A) o es = nothing-needed 0 (omega arith) (λ j k. refl) (λ j. refl) unsplit

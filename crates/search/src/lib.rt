@@ -27,10 +27,10 @@ ghost use Rattle.calculus.specs.Relations.{Relation};
 ghost use Rattle.calculus.specs.Meaning.{relation};
 ghost use Rattle.calculus.specs.Branch.{Branch};
 ghost use Rattle.calculus.specs.Reading.{read};
-ghost use Rattle.problem.specs.Table.{Tabled, Stands, constraintsOf, constraintOf, listed};
+ghost use Rattle.problem.specs.Table.{Tabled, Stands, constraintsOf, constraintOf};
 ghost use Rattle.branch.specs.Rows.{literals, literalCount};
 ghost use Rattle.constraints.specs.Decoded.{decoded};
-ghost use Rattle.places.specs.Places.{RuleOf};
+ghost use Rattle.places.specs.Places.{RuleOf, entriesOf};
 ghost use Rattle.rules.specs.Rows.{HasRow};
 ghost use Rattle.rules.specs.Words.{Lent, Shown};
 ghost use Rattle.quiet.specs.Quiet.{Quiet, WordsOf, pairMark, markCount, markWord, wordCount, restMark};
@@ -86,7 +86,7 @@ fn premises(rule: u8, a: SetVar, b: SetVar, c: SetVar) -> u64
 
 // The literals, as bits, that the rules of constraint i need, and its other marks.
 fn needed(problem: &[u8], i: usize, at: usize, l: Constraint) -> u64
-    requires { ⌜ Stands (now problem) i at × (constraintOf (now problem) i ≡ decoded (listed (constraintOf (now problem) i)) l) ⌝ }
+    requires { ⌜ Stands (now problem) i at × (constraintOf (now problem) i ≡ decoded (entriesOf (constraintOf (now problem) i)) l) ⌝ }
     ensures { λ r. ⌜ NeedsOf (constraintOf (now (problem .entry)) i) r ⌝ }
 {
     match l {

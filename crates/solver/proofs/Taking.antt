@@ -195,7 +195,7 @@ span-end (relation subset A B C) = omega arith
 span-end (relation intersection A B C) = omega arith
 span-end (negation k A B C w) = omega arith
 span-end (exactly A es) = omega arith
-span-end (interval A i j) = omega arith
+span-end (interval A i j es) = omega arith
 
 module _ {bs : List ℕ} {tab : Table} {b : Branch} {r : Found} {q : ℕ} {es : List ℕ} (s : Taking bs tab false b r q es) where
   pub single : slotsOf (decoded (map term es) (r .constraint)) (r .rule) ≡ 1

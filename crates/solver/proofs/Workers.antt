@@ -17,15 +17,14 @@ use Rattle.calculus.specs.Branch as calculus
 use Rattle.calculus.specs.Search.{step, next}
 use Rattle.calculus.specs.Forms.{recordOf}
 use Rattle.problem.specs.declared.Table.{Table}
-use Rattle.problem.specs.Table.{Opened, constraintOf, noConstraint, listed as listOf}
+use Rattle.problem.specs.Table.{Opened, constraintOf, noConstraint}
 use Rattle.branch.specs.declared.Branch.{Branch}
 use Rattle.branch.specs.declared.Asserted.{Asserted}
 use Rattle.branch.specs.Held.{held, restrict, resultOf, Sound}
 use Rattle.branch.proofs.Laws.{refusing}
 use Rattle.branch.proofs.Roots.{root-is}
 use Rattle.constraints.specs.declared.Constraint.{Constraint as Coded}
-use Rattle.constraints.specs.declared.Constraint.the-variants.{Member, Nonmember, Same as Equated, Different, Related, Negated, Exactly, Interval}
-use Rattle.constraints.specs.Decoded.{decoded, Unpacked}
+use Rattle.constraints.specs.Decoded.{decoded, Handled, Unpacked}
 use Rattle.places.specs.Places.{InSpan, splitSpan, entriesOf}
 use Rattle.places.specs.Alternatives.{slotsOf, childOf}
 use Rattle.places.proofs.Slots.{children-slots}
@@ -84,7 +83,7 @@ split-not-19 (relation subset A B C) j s e = omega (arith, s .1)
 split-not-19 (relation intersection A B C) j s e = omega (arith, s .1)
 split-not-19 (negation k A B C w) j s e = omega (arith, s .1)
 split-not-19 (exactly A es) j s e = omega (arith, s .0)
-split-not-19 (interval A i k) j s e = omega (arith, s .0)
+split-not-19 (interval A i k es) j s e = omega (arith, s .0)
 
 -- the entries of a constraint that is decoded are told by it
 indices : (es : List ℕ) → map (λ (t : Term). t .index) (map term es) ≡ es
@@ -96,16 +95,9 @@ unpacked-same {es = es} {fs = fs} u v =
     let w : map term es ≡ map term fs = sym (u .handled .entries-are) ∙ ap entriesOf (sym (u .is) ∙ v .is) ∙ v .handled .entries-are in
     sym (indices es) ∙ ap (map (λ (t : Term). t .index)) w ∙ indices fs
 
--- the list that a constraint is decoded with is its own
-pub own-list : (ts : List Term) (l : Coded) → decoded ts l ≡ decoded (listOf (decoded ts l)) l
-own-list ts (Member t A) = refl
-own-list ts (Nonmember t A) = refl
-own-list ts (Equated t u) = refl
-own-list ts (Different t u) = refl
-own-list ts (Related k A B C) = refl
-own-list ts (Negated k A B C w) = refl
-own-list ts (Exactly A) = refl
-own-list ts (Interval A i j) = refl
+-- the entries that a constraint is decoded with are its own
+own-entries : {es : List ℕ} {l : Coded} → Handled es l → decoded (map term es) l ≡ decoded (entriesOf (decoded (map term es) l)) l
+own-entries {l = l} h = ap (λ (ts : List Term). decoded ts l) (sym (h .entries-are))
 
 module _ {bs : List ℕ} {tab : Table} {b : Branch} {r : Found} {q : ℕ} {es : List ℕ} (s : Taking bs tab true b r q es) where
   at-root : q ≡ r .root .0
@@ -115,8 +107,8 @@ module _ {bs : List ℕ} {tab : Table} {b : Branch} {r : Found} {q : ℕ} {es : 
   rooted = subst (λ (p : ℕ). Taking bs tab true b r p es) at-root s
 
   -- the constraint as `list_at` wants it
-  pub decodes : constraintOf bs (r .number) ≡ decoded (listOf (constraintOf bs (r .number))) (r .constraint)
-  decodes = rw (s .unpacked .is) (own-list (map term es) (r .constraint))
+  pub decodes : constraintOf bs (r .number) ≡ decoded (entriesOf (constraintOf bs (r .number))) (r .constraint)
+  decodes = rw (s .unpacked .is) (own-entries (s .unpacked .handled))
 
 -- with other entries of the same constraint
 pub relisted : {bs : List ℕ} {tab : Table} {b : Branch} {r : Found} {q : ℕ} {es fs : List ℕ} → Taking bs tab true b r q es → Unpacked bs (r .number) fs (r .constraint) → Taking bs tab true b r q fs
@@ -128,7 +120,7 @@ module _ {bs : List ℕ} {tab : Table} {b : Branch} {r : Found} {es : List ℕ} 
 
   -- where rule 20 applies the root is that of no entry
   pub free : r .rule ≡ 20 → Free (b .parents) es (r .root .0)
-  free e = applies-free (held b) (r .root .0) (sym (root-is (held b) (r .root .0)) ∙ s .located .rooted) es (r .constraint) (s .unpacked .handled) (r .rule) (ruled s) e (applying s)
+  free e = applies-free (held b) (r .root .0) (sym (root-is (held b) (r .root .0)) ∙ s .located .rooted) es (r .constraint) (r .rule) (ruled s) e (applying s)
 
   module _ (word : ℕ) (small : word < 2 ^ 64) (left : Left (constants bs tab) (held b) this es (r .rule) (r .root .0) 0 word) where
     -- the bits are as many as the children
@@ -150,9 +142,9 @@ module _ {bs : List ℕ} {tab : Table} {b : Branch} {r : Found} {es : List ℕ} 
 pub split-taking : {bs : List ℕ} {tab : Table} {b : Branch} {s : Split} → Opened bs tab → Splits bs tab b s → {es : List ℕ} → Unpacked bs (s .found .number) es (s .found .constraint) → Taking bs tab true b (s .found) (s .found .root .0) es
 split-taking o w u = record { opened = o; sound = w .ready .sound; settled = λ _. w .settled; some-rule = w .some-rule; first-is = w .first-is; located = w .located; unpacked = u }
 
-pub split-decodes : {bs : List ℕ} {tab : Table} {b : Branch} {s : Split} → Splits bs tab b s → constraintOf bs (s .found .number) ≡ decoded (listOf (constraintOf bs (s .found .number))) (s .found .constraint)
+pub split-decodes : {bs : List ℕ} {tab : Table} {b : Branch} {s : Split} → Splits bs tab b s → constraintOf bs (s .found .number) ≡ decoded (entriesOf (constraintOf bs (s .found .number))) (s .found .constraint)
 unfolding constraintOf
-split-decodes {s = s} w = rw (w .located .opened) (own-list (map term (w .located .entries)) (s .found .constraint))
+split-decodes {s = s} w = rw (w .located .opened) (own-entries (w .located .handled))
 
 -- ---- a branch that propagation has settled
 

@@ -14,7 +14,7 @@ use Rattle.calculus.specs.Terms.{Term, SetVar, term, setVar}
 use Rattle.calculus.specs.Relations.{Rule, Operand, Literal, Relation, operandOf, propagation}
 use Rattle.calculus.specs.Relations as R
 use Rattle.calculus.specs.Meaning as meaning
-use Rattle.calculus.specs.Meaning.{relation, entries}
+use Rattle.calculus.specs.Meaning.{relation}
 use Rattle.calculus.specs.Branch.{Branch, rootAt, root, In, Same, assert, assertAll}
 use Rattle.calculus.specs.Search.{Move, factOf}
 use Rattle.calculus.specs.Invariants.{Falls}
@@ -174,9 +174,9 @@ module _ (ps : List ℕ) (fall : Falls ps) (j h c : ℕ) (r : CodedTerm) (own : 
         same R.C = refl
 
     -- of an entry
-    entry-acts : (m : Constraint) → Placed ps es m j q h → c < slotsOf (decoded (map term es) m) j → (A : CodedSet) → A .0 < mostSets → j ≡ 19 → (ts : List Term) → ts ≡ map term es → ((b : Branch) → moveAt b (decoded (map term es) m) j q ≡ listMove b (setVar (A .0)) ts j q) → (x : Child) → x ≡ child (λ _. A .0) (R.In R.A ∷ []) → Acts ps (decoded (map term es) m) j q c (noteOf r x)
-    entry-acts m P n A la e ts z f =
-        let move : (b : Branch) → moveAt b (decoded (map term es) m) j q ≡ (root b (term (getD es q 0)), propagation 19 [] (In (term (getD es q 0)) (setVar (A .0)))) = λ b. f b ∙ rw (e, z, List·getD-map term es q 0) in
+    entry-acts : (m : Constraint) → Placed ps es m j q h → c < slotsOf (decoded (map term es) m) j → (A : CodedSet) → A .0 < mostSets → j ≡ 19 → ((b : Branch) → moveAt b (decoded (map term es) m) j q ≡ listMove b (setVar (A .0)) (map term es) j q) → (x : Child) → x ≡ child (λ _. A .0) (R.In R.A ∷ []) → Acts ps (decoded (map term es) m) j q c (noteOf r x)
+    entry-acts m P n A la e f =
+        let move : (b : Branch) → moveAt b (decoded (map term es) m) j q ≡ (root b (term (getD es q 0)), propagation 19 [] (In (term (getD es q 0)) (setVar (A .0)))) = λ b. f b ∙ rw (e, List·getD-map term es q 0) in
         one-acts m P n (getD es q 0) (each-at (λ (x : ℕ). x < mostTerms) es 0 (entries-below es m (P .handled)) q (P .of-entry e))
         (its-root (getD es q 0) (ap (λ (w : Term × Move). w .0 .index) (sym (move (listsOf ps [] []))) ∙ P .concerns)) (setVar (A .0)) la (rw e record { not-20 = refl; not-4 = refl; once = refl }) (R.In R.A) (λ b _. ap (λ (w : Term × Move). w .1 .alternatives) (move b))
 
@@ -194,10 +194,10 @@ module _ (ps : List ℕ) (fall : Falls ps) (j h c : ℕ) (r : CodedTerm) (own : 
   negated-acts Unequal A B C v x e es q P n = row-acts es q (Negated Unequal A B C v) A B C P (negated-child P n) (P .handled .in-range .0 .2) (v .0) (P .handled .in-range .1) (its-root (v .0) (P .concerns)) (λ b _. rw (negation-rule P)) x e
 
   pub exactly-acts : ¬ (j ≡ 20) → (A : CodedSet) (x : Child) → x ≡ child (λ _. A .0) (R.In R.A ∷ []) → ActsFor ps (Exactly A) j h c (noteOf r x)
-  exactly-acts n20 A x e es q P n = entry-acts es q (Exactly A) P n A (P .handled .in-range .0) (entry-rule j (P .ruled) n20) (map term es) refl (λ b. refl) x e
+  exactly-acts n20 A x e es q P n = entry-acts es q (Exactly A) P n A (P .handled .in-range .0) (entry-rule j (P .ruled) n20) (λ b. refl) x e
 
   pub interval-acts : ¬ (j ≡ 20) → (A : CodedSet) (t u : CodedTerm) (x : Child) → x ≡ child (λ _. A .0) (R.In R.A ∷ []) → ActsFor ps (Interval A t u) j h c (noteOf r x)
-  interval-acts n20 A t u x e es q P n = entry-acts es q (Interval A t u) P n A (P .handled .in-range .0) (entry-rule j (P .ruled) n20) (entries (term (t .0)) (term (u .0))) (P .handled .entries-are) (λ b. refl) x e
+  interval-acts n20 A t u x e es q P n = entry-acts es q (Interval A t u) P n A (P .handled .in-range .0) (entry-rule j (P .ruled) n20) (λ b. refl) x e
 
   -- merging with a term is merging with another of its class
   pub same-acts : (t u k : CodedTerm) → k .0 ≡ rootOf ps (u .0) → ActsFor ps (Equated t u) j h c (joinOf r k)

@@ -2,12 +2,10 @@
 use borrow.Author.Needs.{needs}
 use mathlib.Core.Path.{ap, _∙_}
 use mathlib.Core.Bool.{not}
-use Rattle.calculus.specs.Terms.{setVar}
 use Rattle.calculus.specs.Relations.{denies}
 use Rattle.calculus.specs.Reading.{words}
 use Rattle.constraints.specs.Decoded.{relationOf, negationOf}
-use Rattle.checker.specs.Tested.{seen}
-use Rattle.checker.proofs.Holding.{same-set, readable, members-in, named, known-test, entries-readable, interval-entries, interval-test, member-test, same-test, relates-test, negated-relates, exactly-test}
+use Rattle.checker.proofs.Holding.{same-set, readable, members-in, named, known-test, entries-readable, interval-entries, member-test, same-test, relates-test, negated-relates, exactly-test}
 use Rattle.checker.proofs.holds.Statement.{statement}
 use Rattle.checker.proofs.holds.Tie as tie
 use Rattle.checker.proofs.holds.Reads as reads
@@ -222,9 +220,8 @@ returns-8 c =
     let q = s .pre in
     let a = s .args in
     let k = c .before .before .before .l8 .given in
-    let u = c .before .before .before .before .before .list .ensures in
-    known-test _ _ (q .0) _ _ (q .3) _ (q .2) _ _ u _ (k .1) _ _
-    (exactly-test (a .problem .now) (a .tab) (a .assignment .now) (a .at) _ _ (c .before .before .before .before .before .list .result .now) (k .0 .0 .0) (c .before .members10 .ensures) (c .exactly2 .ensures) ∙ interval-test _ _ _ u _ _ _ (k .1) (seen (a .problem .now) (a .tab) (a .assignment .now) (a .at)) (setVar (k .0 .0 .0)))
+    known-test _ _ (q .0) _ _ (q .3) _ (q .2) _ _ (c .before .before .before .before .before .list .ensures) _ (k .1) _ _
+    (exactly-test (a .problem .now) (a .tab) (a .assignment .now) (a .at) _ _ (c .before .before .before .before .before .list .result .now) (k .0 .0 .0) (c .before .members10 .ensures) (c .exactly2 .ensures))
 
 pub holds-spec : {M : Type 1} → statement M
 holds-spec =
