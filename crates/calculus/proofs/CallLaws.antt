@@ -21,7 +21,7 @@ use Rattle.calculus.specs.Search as Ru
 use Rattle.calculus.specs.Search.{Candidate, Next, solved, step, children, next, places}
 use Rattle.calculus.specs.Problem.{setCount, Problem, termCount, constantTerms, Assignment, values, Satisfies, Valid}
 use Rattle.calculus.specs.Run.{Event, formed, stepped, log, Tally, stop, listForm, takeStep, tally, run}
-use Rattle.calculus.specs.Forms.{recordOf, listedForms, Agrees, SatisfiesForm}
+use Rattle.calculus.specs.Forms.{recordOf, recordLength, listedForms, Agrees, SatisfiesForm}
 use Rattle.calculus.specs.Run as R
 use Rattle.calculus.specs.Reading.{Parsed, parsed, refused, _>>=_, ask, read}
 use Rattle.calculus.specs.Calls.{Verdict, FORMS, FALSE, SPENT, NOROOM, Answer, refusal, ended, Outcome, verdictOf, over, asked, left, answered, call}
@@ -29,7 +29,8 @@ use Rattle.calculus.specs.Order.{Progress, Works}
 use Rattle.calculus.specs.Demands.{Follows, SameSolutions, Stops, Kept}
 use Rattle.calculus.proofs.Bools.{Each-all, Each-imp, Each-app}
 use Rattle.calculus.proofs.Solutions.{Some-any, Some-imp, any-witness}
-use Rattle.calculus.proofs.Records.{record-length, run-solutions}
+use Rattle.calculus.proofs.RecordFields.{record-length}
+use Rattle.calculus.proofs.Records.{run-solutions}
 use Rattle.calculus.proofs.Parsing.{bind-parsed, ask-parsed}
 use Rattle.calculus.proofs.LogEvents.{log-each}
 use Rattle.calculus.proofs.ReadValid.{read-valid}
@@ -38,15 +39,15 @@ use Rattle.calculus.proofs.WorkOrder.{run-goes}
 -- ---- lengths
 
 module _ (n : ℕ) where
-  pub records-long : (es : List Event) (l q : ℕ) → length (tally n l q es .records) ≡ tally n l q es .forms * (3 * n)
-  records-long [] l q = sym (zero-mul (3 * n))
+  pub records-long : (es : List Event) (l q : ℕ) → length (tally n l q es .records) ≡ tally n l q es .forms * recordLength n
+  records-long [] l q = sym (zero-mul (recordLength n))
   records-long (formed b ∷ es) l q = go (leb (length (recordOf n b)) q) refl (records-long es l (q - length (recordOf n b)))
     where
-      go : (t : Bool) → leb (length (recordOf n b)) q ≡ t → length (tally n l (q - length (recordOf n b)) es .records) ≡ tally n l (q - length (recordOf n b)) es .forms * (3 * n)
-          → length (tally n l q (formed b ∷ es) .records) ≡ tally n l q (formed b ∷ es) .forms * (3 * n)
-      go true t ih = rw (t, tally) (omega (arith, length-append (recordOf n b) (tally n l (q - length (recordOf n b)) es .records), record-length b n 0, ih, suc-mul (tally n l (q - length (recordOf n b)) es .forms) (3 * n)))
-      go false t ih = rw (t, tally) (sym (zero-mul (3 * n)))
-  records-long (stepped r ∷ es) zero q = sym (zero-mul (3 * n))
+      go : (t : Bool) → leb (length (recordOf n b)) q ≡ t → length (tally n l (q - length (recordOf n b)) es .records) ≡ tally n l (q - length (recordOf n b)) es .forms * recordLength n
+          → length (tally n l q (formed b ∷ es) .records) ≡ tally n l q (formed b ∷ es) .forms * recordLength n
+      go true t ih = rw (t, tally) (omega (arith, length-append (recordOf n b) (tally n l (q - length (recordOf n b)) es .records), record-length b n, ih, suc-mul (tally n l (q - length (recordOf n b)) es .forms) (recordLength n)))
+      go false t ih = rw (t, tally) (sym (zero-mul (recordLength n)))
+  records-long (stepped r ∷ es) zero q = sym (zero-mul (recordLength n))
   records-long (stepped r ∷ es) (suc l) q = records-long es l q
 
   pub records-fit : (es : List Event) (l q : ℕ) → length (tally n l q es .records) ≤ q
@@ -80,13 +81,13 @@ module _ (n : ℕ) where
   spent-all (stepped r ∷ es) zero q e = refl
   spent-all (stepped r ∷ es) (suc l) q e = ap suc (spent-all es l q e)
 
-  pub room-full : (es : List Event) (l q : ℕ) → tally n l q es .end ≡ R.NOROOM → q < suc (tally n l q es .forms) * (3 * n)
+  pub room-full : (es : List Event) (l q : ℕ) → tally n l q es .end ≡ R.NOROOM → q < suc (tally n l q es .forms) * recordLength n
   room-full [] l q e = let w : false ≡ true = cc in absurd (false≢true w)
   room-full (formed b ∷ es) l q e = go (leb (length (recordOf n b)) q) refl (room-full es l (q - length (recordOf n b)))
     where
-      go : (t : Bool) → leb (length (recordOf n b)) q ≡ t → (tally n l (q - length (recordOf n b)) es .end ≡ R.NOROOM → q - length (recordOf n b) < suc (tally n l (q - length (recordOf n b)) es .forms) * (3 * n)) → q < suc (tally n l q (formed b ∷ es) .forms) * (3 * n)
-      go true t ih = rw (t, tally) (omega (arith, ih (rw (t, tally) at e), record-length b n 0, leb-true (length (recordOf n b)) q t, suc-mul (suc (tally n l (q - length (recordOf n b)) es .forms)) (3 * n)))
-      go false t ih = rw (t, tally) (omega (arith, record-length b n 0, leb-false (length (recordOf n b)) q t))
+      go : (t : Bool) → leb (length (recordOf n b)) q ≡ t → (tally n l (q - length (recordOf n b)) es .end ≡ R.NOROOM → q - length (recordOf n b) < suc (tally n l (q - length (recordOf n b)) es .forms) * recordLength n) → q < suc (tally n l q (formed b ∷ es) .forms) * recordLength n
+      go true t ih = rw (t, tally) (omega (arith, ih (rw (t, tally) at e), record-length b n, leb-true (length (recordOf n b)) q t, suc-mul (suc (tally n l (q - length (recordOf n b)) es .forms)) (recordLength n)))
+      go false t ih = rw (t, tally) (omega (arith, record-length b n, leb-false (length (recordOf n b)) q t))
   room-full (stepped r ∷ es) zero q e = let w : false ≡ true = cc in absurd (false≢true w)
   room-full (stepped r ∷ es) (suc l) q e = room-full es l q e
 
@@ -117,12 +118,13 @@ module _ (n : ℕ) (k : List Term) where
 
 -- ---- the buffers
 
-pub listed-app : (size c : ℕ) (xs ys : List ℕ) → length xs ≡ c * size → listedForms size c (xs ++ ys) ≡ listedForms size c xs
-listed-app size zero xs ys e = refl
-listed-app size (suc c) xs ys e =
+pub listed-app : (n c : ℕ) (xs ys : List ℕ) → length xs ≡ c * recordLength n → listedForms n c (xs ++ ys) ≡ listedForms n c xs
+listed-app n zero xs ys e = refl
+listed-app n (suc c) xs ys e =
+    let size : ℕ = recordLength n in
     let l : size ≤ length xs = omega (arith, e, suc-mul c size) in
     let d : length (drop size xs) ≡ c * size = omega (arith, length-drop size xs, e, suc-mul c size) in
-    rw (take-append-le size xs ys l, drop-append-le size xs ys l, listed-app size c (drop size xs) ys d)
+    rw (take-append-le size xs ys l, drop-append-le size xs ys l, listed-app n c (drop size xs) ys d)
 
 -- ---- what a call is
 
@@ -177,13 +179,13 @@ same-solutions bytes budget forms trace prob e v n c a f g =
     let s : Tally = run prob budget (length forms) in
     let d = finished (s .end) (s .forms) v (w .verdict-is) f in
     let L : List Event = log (termCount prob) (constantTerms prob) (prob .constraints) (termCount prob * suc (setCount prob)) (start (termCount prob)) in
-    let z : listedForms (3 * termCount prob) c (call bytes budget forms trace .forms) ≡ listedForms (3 * termCount prob) (s .forms) (s .records)
-    = rw (w .forms-are, sym (w .count-is)) (listed-app (3 * termCount prob) (s .forms) (s .records) (drop (length (s .records)) forms) (records-long (termCount prob) L budget (length forms))) in
+    let z : listedForms (termCount prob) c (call bytes budget forms trace .forms) ≡ listedForms (termCount prob) (s .forms) (s .records)
+    = rw (w .forms-are, sym (w .count-is)) (listed-app (termCount prob) (s .forms) (s .records) (drop (length (s .records)) forms) (records-long (termCount prob) L budget (length forms))) in
     subst (λ (x : List (List ℕ)). Satisfies prob g ↔ Some (SatisfiesForm prob g) x) (sym z) (run-solutions prob acc budget (length forms) d g)
 
 -- every solution agrees with a listed record
 pub covers : (bytes : List ℕ) (budget : ℕ) (forms trace : List ℕ) (prob : Problem) → read bytes ≡ parsed prob → (v : Verdict) (n c : ℕ) → call bytes budget forms trace .answer ≡ ended v n c → (v ≡ FORMS) ⊎ (v ≡ FALSE)
-    → (g : Assignment) → Satisfies prob g → Some (λ r. (witness : Term → ℤ) × Agrees (termCount prob) (values prob g witness) r) (listedForms (3 * termCount prob) c (call bytes budget forms trace .forms))
+    → (g : Assignment) → Satisfies prob g → Some (λ r. (witness : Term → ℤ) × Agrees (termCount prob) (values prob g witness) r) (listedForms (termCount prob) c (call bytes budget forms trace .forms))
 covers bytes budget forms trace prob e v n c a f g h = Some-imp (SatisfiesForm prob g) (λ r. (witness : Term → ℤ) × Agrees (termCount prob) (values prob g witness) r) (λ r s. (s .0, s .1)) _ (same-solutions bytes budget forms trace prob e v n c a f g .0 h)
 
 -- what satisfies a record is a solution
@@ -199,13 +201,13 @@ follows bytes budget forms trace prob q v n c a =
     let s : Tally = run prob budget (length forms) in
     let L : List Event = log (termCount prob) (constantTerms prob) (prob .constraints) (termCount prob * suc (setCount prob)) (start (termCount prob)) in
     let g = run-goes prob acc budget (length forms) in
-    let long : length (s .records) ≡ c * (3 * termCount prob) = records-long (termCount prob) L budget (length forms) ∙ ap (λ (x : ℕ). x * (3 * termCount prob)) (w .count-is) in
+    let long : length (s .records) ≡ c * recordLength (termCount prob) = records-long (termCount prob) L budget (length forms) ∙ ap (λ (x : ℕ). x * recordLength (termCount prob)) (w .count-is) in
     let four : length (s .trace) ≡ 4 * n = trace-long (termCount prob) (constantTerms prob) L (log-four (termCount prob) (constantTerms prob) (prob .constraints) (termCount prob * suc (setCount prob)) (start (termCount prob))) budget (length forms) ∙ ap (λ (x : ℕ). 4 * x) (w .steps-are) in (
       s .records,
       s .trace,
       g .0,
       rw (w .verdict-is, w .steps-are, w .count-is) at (g .1),
-      sym (ap (take (c * (3 * termCount prob))) (w .forms-are) ∙ take-at (s .records) (drop (length (s .records)) forms) (c * (3 * termCount prob)) long),
+      sym (ap (take (c * recordLength (termCount prob))) (w .forms-are) ∙ take-at (s .records) (drop (length (s .records)) forms) (c * recordLength (termCount prob)) long),
       sym (ap (take (4 * n)) (w .trace-is) ∙ take-at (s .trace) (drop (length (s .trace)) trace) (4 * n) four),
       g .2,
     )
@@ -228,7 +230,7 @@ stops bytes budget forms trace prob e n c =
     let s : Tally = run prob budget (length forms) in
     let L : List Event = log (termCount prob) (constantTerms prob) (prob .constraints) (termCount prob * suc (setCount prob)) (start (termCount prob)) in (
       (λ a. let w = was bytes budget forms trace prob e SPENT n c a in sym (w .steps-are) ∙ spent-all (termCount prob) L budget (length forms) (of-spent (s .end) (s .forms) (w .verdict-is))),
-      (λ a. let w = was bytes budget forms trace prob e NOROOM n c a in subst (λ (x : ℕ). length forms < suc x * (3 * termCount prob)) (w .count-is) (room-full (termCount prob) L budget (length forms) (of-noroom (s .end) (s .forms) (w .verdict-is)))),
+      (λ a. let w = was bytes budget forms trace prob e NOROOM n c a in subst (λ (x : ℕ). length forms < suc x * recordLength (termCount prob)) (w .count-is) (room-full (termCount prob) L budget (length forms) (of-noroom (s .end) (s .forms) (w .verdict-is)))),
     )
 
 -- 12 and 13 are asked after the problem's questions
@@ -271,7 +273,7 @@ kept bytes budget forms trace = (
         few,
         omega (arith, long, fit),
         over-length (s .records) forms fit,
-        drop-at (s .records) (drop (length (s .records)) forms) (s .forms * (3 * termCount prob)) long ∙ ap (λ (k : ℕ). drop k forms) long,
+        drop-at (s .records) (drop (length (s .records)) forms) (s .forms * recordLength (termCount prob)) long ∙ ap (λ (k : ℕ). drop k forms) long,
         over-length (s .trace) trace (omega (arith, four, few, room)),
         drop-at (s .trace) (drop (length (s .trace)) trace) (4 * s .steps) four ∙ ap (λ (k : ℕ). drop k trace) four,
       )),

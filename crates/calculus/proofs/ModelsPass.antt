@@ -3,7 +3,7 @@ use mathlib.Core.Path.{_≡_, refl, sym, _∙_, ap, subst}
 use mathlib.Core.Logic.{_⊎_, inl, inr}
 use mathlib.Core.Bool.{Bool, true, false}
 use mathlib.Core.List.{List, [], _∷_, map}
-use Prim.Native.Nat.{ℕ, zero, suc, _+_, _-_, _*_, _<_, _≤_, zero-le, suc-le-suc}
+use Prim.Native.Nat.{ℕ, zero, suc, _+_, _-_, _<_, _≤_, zero-le, suc-le-suc}
 use native.Mathlib.Omega.{arith}
 use native.Mathlib.Decide.{decLt}
 use native.Mathlib.Nat.{le-of-suc-le-suc}
@@ -17,7 +17,7 @@ use Rattle.calculus.specs.Terms.{Term, SetVar, term, setVar, termsFrom}
 use Rattle.calculus.specs.Meaning.{Valuation, Holds}
 use Rattle.calculus.specs.Problem.{Problem, constantCount, nameable, termCount, setCount, values, Satisfies, Rising, Valid}
 use Rattle.calculus.specs.Encoding.{Bytes, twoBytes, Fits16, Handed, encodeHanded, WrittenAssignment}
-use Rattle.calculus.specs.Forms.{listedForms, Agrees, recordRoot, modelNumber, model, handedModel}
+use Rattle.calculus.specs.Forms.{rootIn, insideIn, listedForms, Agrees, modelNumber, model, handedModel}
 use Rattle.calculus.specs.Check.{assignmentOf}
 use Rattle.calculus.specs.Calls.{HOLDS, check, call}
 use Rattle.calculus.specs.Demands.{Shape, Valued, ModelsPass}
@@ -28,7 +28,7 @@ use Rattle.calculus.proofs.Words.{small-fits, within-fits16, encoded-by
 use Rattle.calculus.proofs.ConstraintLaws.{InScope, holds-same}
 use Rattle.calculus.proofs.ReadAssignment.{reads-assignment}
 use Rattle.calculus.proofs.ReadValid.{read-valid}
-use Rattle.calculus.proofs.ModelValues.{shown, listed?}
+use Rattle.calculus.proofs.ModelValues.{listed?}
 use Rattle.calculus.proofs.Models.{models}
 use Rattle.calculus.proofs.Checking.{checks}
 
@@ -100,7 +100,7 @@ module _ (prob : Problem) (acc : Valid prob) (r : List ℕ) (s : Shape prob r) (
   value t = modelNumber prob r (term t)
 
   abbrev rootOf : ℕ → ℕ
-  rootOf t = getD r (3 * t) 0
+  rootOf = rootIn r
 
   -- a class whose root is a constant has its value; any other has no constant
   abbrev Value : ℕ → Type 0
@@ -134,13 +134,13 @@ module _ (prob : Problem) (acc : Valid prob) (r : List ℕ) (s : Shape prob r) (
   abbrev member? : SetVar → Term → Bool
   member? = listed? prob acc r s
 
-  is-root : (A : SetVar) (t : ℕ) → t < T → member? A (term t) ≡ true → rootOf t ≡ t
-  is-root A t l e = sym (shown prob acc r s t l) ∙ eqb-true (recordRoot r (term t) .index) t (and-l (eqb (recordRoot r (term t) .index) t) (bit (getD r (3 * t + 1) 0) (A .index)) e)
+  is-root : (A : SetVar) (t : ℕ) → member? A (term t) ≡ true → rootOf t ≡ t
+  is-root A t e = eqb-true (rootIn r t) t (and-l (eqb (rootIn r t) t) (bit (insideIn r t) (A .index)) e)
 
   -- a set's members ascend and are few
   members-rising : (A : SetVar) → Rising (model prob r .members A) × (length (model prob r .members A) < 256)
   members-rising A =
-      let z = kept-rising (modelNumber prob r) (member? A) 0 T (λ t u _ l m p q. ascends t u l (omega arith) (is-root A t (omega arith) p) (is-root A u (omega arith) q)) in
+      let z = kept-rising (modelNumber prob r) (member? A) 0 T (λ t u _ l m p q. ascends t u l (omega arith) (is-root A t p) (is-root A u q)) in
       (z .0, omega (arith, z .1, acc .few-terms))
 
   written : WrittenAssignment prob (encodeHanded (handedModel prob r)) (handedModel prob r)
@@ -179,7 +179,7 @@ module _ (prob : Problem) (acc : Valid prob) (r : List ℕ) (s : Shape prob r) (
 
 pub models-pass : ModelsPass
 models-pass bytes budget forms trace prob e v n c a =
-    Each-imp Model Passes (listedForms (3 * termCount prob) c (call bytes budget forms trace .forms)) pass
+    Each-imp Model Passes (listedForms (termCount prob) c (call bytes budget forms trace .forms)) pass
     (models bytes budget forms trace prob e v n c a)
   where
     Model : List ℕ → Type 0

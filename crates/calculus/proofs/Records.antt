@@ -3,67 +3,38 @@ use mathlib.Core.Path.{_≡_, refl, sym, _∙_, ap, ap₂, subst}
 use mathlib.Core.Logic.{_⊎_, inl, inr, _↔_}
 use mathlib.Core.Bool.{Bool, true, false, cond, true≢false, false≢true}
 use mathlib.Core.List.{List, [], _∷_, _++_, map}
-use Prim.Native.Nat.{ℕ, zero, suc, _+_, _-_, _*_, _<_, _≤_, zero-le, suc-le-suc}
-use native.Mathlib.Omega.{arith}
-use lib.ListN.{length, getD, take, drop}
+use Prim.Native.Nat.{ℕ, zero, suc, _-_, _*_, _≤_, zero-le, suc-le-suc}
+use lib.ListN.{length, take, drop}
 use lib.Seq.{take-at, drop-at}
 use lib.Dec.{leb}
 use lib.IntN.{ℤ}
 use Rattle.calculus.specs.Lists.{bit, Each, Some, here, there, gather}
 use Rattle.calculus.specs.Meaning.{_∈_, Valuation, Holds}
-use Rattle.calculus.specs.Branch.{Branch, start, rootAt, inside, outside}
+use Rattle.calculus.specs.Branch.{Branch, start, inside, outside}
 use Rattle.calculus.specs.Terms.{term}
 use Rattle.calculus.specs.Problem.{Problem, termCount, setCount, constantTerms, Assignment, values, Satisfies, Valid}
-use Rattle.calculus.specs.Forms.{recordFrom, recordOf, listedForms, Agrees, SatisfiesForm}
+use Rattle.calculus.specs.Forms.{recordOf, recordLength, listedForms, Agrees, SatisfiesForm}
 use Rattle.calculus.specs.Run.{Event, formed, stepped, log, End, DONE, NOROOM, Tally, tally, run}
 use Rattle.calculus.proofs.BranchForms.{formsOf, problemForms, AgreesBranch, SatisfiesBranch}
 use Rattle.calculus.proofs.Solutions.{solutions}
+use Rattle.calculus.proofs.RecordFields.{record-length, root-shown, inside-shown, outside-shown}
 
--- ---- a record's bytes
-
-three : (t : ℕ) → 3 * suc t ≡ suc (suc (suc (3 * t)))
-three t = omega arith
-
-module _ (b : Branch) where
-  pub root-byte : (n s t : ℕ) → t < n → getD (recordFrom b s n) (3 * t) 0 ≡ rootAt b (s + t)
-  root-byte zero s t l = absurd (omega arith)
-  root-byte (suc n) s zero l = ap (rootAt b) (omega arith)
-  root-byte (suc n) s (suc t) l = rw (three t) (root-byte n (suc s) t (omega arith) ∙ ap (rootAt b) (omega arith))
-
-  pub in-byte : (n s t : ℕ) → t < n → getD (recordFrom b s n) (3 * t + 1) 0 ≡ getD (b .insides) (rootAt b (s + t)) 0
-  in-byte zero s t l = absurd (omega arith)
-  in-byte (suc n) s zero l = ap (λ (h : ℕ). getD (b .insides) (rootAt b h) 0) (omega arith)
-  in-byte (suc n) s (suc t) l =
-      let e : 3 * suc t + 1 ≡ suc (suc (suc (3 * t + 1))) = omega arith in
-      rw e (in-byte n (suc s) t (omega arith) ∙ ap (λ (h : ℕ). getD (b .insides) (rootAt b h) 0) (omega arith))
-
-  pub out-byte : (n s t : ℕ) → t < n → getD (recordFrom b s n) (3 * t + 2) 0 ≡ getD (b .outsides) (rootAt b (s + t)) 0
-  out-byte zero s t l = absurd (omega arith)
-  out-byte (suc n) s zero l = ap (λ (h : ℕ). getD (b .outsides) (rootAt b h) 0) (omega arith)
-  out-byte (suc n) s (suc t) l =
-      let e : 3 * suc t + 2 ≡ suc (suc (suc (3 * t + 2))) = omega arith in
-      rw e (out-byte n (suc s) t (omega arith) ∙ ap (λ (h : ℕ). getD (b .outsides) (rootAt b h) 0) (omega arith))
-
-  pub record-length : (n s : ℕ) → length (recordFrom b s n) ≡ 3 * n
-  record-length zero s = refl
-  record-length (suc n) s = omega (arith, record-length n (suc s))
-
--- a form and its record say the same
+-- ---- a form and its record say the same
 module _ (n : ℕ) (v : Valuation) (b : Branch) where
   pub agrees-record : AgreesBranch n v b → Agrees n v (recordOf n b)
   unfolding inside outside
   agrees-record a = record {
-    merges = λ t l. a .merges t l ∙ ap (λ (x : ℕ). v .num (term x)) (ap (rootAt b) (omega arith) ∙ sym (root-byte b n 0 t l));
-    insides = λ t A l e. a .insides t A l (ap (λ (h : ℕ). bit (getD (b .insides) (rootAt b h) 0) (A .index)) (omega arith) ∙ ap (λ (x : ℕ). bit x (A .index)) (sym (in-byte b n 0 t l)) ∙ e);
-    outsides = λ t A l e. a .outsides t A l (ap (λ (h : ℕ). bit (getD (b .outsides) (rootAt b h) 0) (A .index)) (omega arith) ∙ ap (λ (x : ℕ). bit x (A .index)) (sym (out-byte b n 0 t l)) ∙ e);
+    merges = λ t l. a .merges t l ∙ ap (λ (x : ℕ). v .num (term x)) (sym (root-shown b n t l));
+    insides = λ t A l e. a .insides t A l (ap (λ (x : ℕ). bit x (A .index)) (sym (inside-shown b n t l)) ∙ e);
+    outsides = λ t A l e. a .outsides t A l (ap (λ (x : ℕ). bit x (A .index)) (sym (outside-shown b n t l)) ∙ e);
   }
 
   pub record-agrees : Agrees n v (recordOf n b) → AgreesBranch n v b
   unfolding inside outside
   record-agrees a = record {
-    merges = λ t l. a .merges t l ∙ ap (λ (x : ℕ). v .num (term x)) (root-byte b n 0 t l ∙ ap (rootAt b) (omega arith));
-    insides = λ t A l e. a .insides t A l (ap (λ (x : ℕ). bit x (A .index)) (in-byte b n 0 t l) ∙ ap (λ (h : ℕ). bit (getD (b .insides) (rootAt b h) 0) (A .index)) (omega arith) ∙ e);
-    outsides = λ t A l e. a .outsides t A l (ap (λ (x : ℕ). bit x (A .index)) (out-byte b n 0 t l) ∙ ap (λ (h : ℕ). bit (getD (b .outsides) (rootAt b h) 0) (A .index)) (omega arith) ∙ e);
+    merges = λ t l. a .merges t l ∙ ap (λ (x : ℕ). v .num (term x)) (root-shown b n t l);
+    insides = λ t A l e. a .insides t A l (ap (λ (x : ℕ). bit x (A .index)) (inside-shown b n t l) ∙ e);
+    outsides = λ t A l e. a .outsides t A l (ap (λ (x : ℕ). bit x (A .index)) (outside-shown b n t l) ∙ e);
   }
 
 -- ---- a run that ends
@@ -71,9 +42,9 @@ module _ (n : ℕ) (v : Valuation) (b : Branch) where
 abbrev pub concat : List (List ℕ) → List ℕ
 concat rs = gather (λ (r : List ℕ). r) rs
 
-pub listed-concat : (size : ℕ) (rs : List (List ℕ)) → Each (λ r. length r ≡ size) rs → listedForms size (length rs) (concat rs) ≡ rs
-listed-concat size [] e = refl
-listed-concat size (r ∷ rs) e = rw (take-at r (concat rs) size (e .0), drop-at r (concat rs) size (e .0), listed-concat size rs (e .1))
+pub listed-concat : (n : ℕ) (rs : List (List ℕ)) → Each (λ r. length r ≡ recordLength n) rs → listedForms n (length rs) (concat rs) ≡ rs
+listed-concat n [] e = refl
+listed-concat n (r ∷ rs) e = rw (take-at r (concat rs) (recordLength n) (e .0), drop-at r (concat rs) (recordLength n) (e .0), listed-concat n rs (e .1))
 
 module _ (n : ℕ) where
   -- the forms and the records of a log, whole
@@ -90,9 +61,9 @@ module _ (n : ℕ) where
   done-all (stepped r ∷ es) zero room e = let w : false ≡ true = cc in absurd (false≢true w)
   done-all (stepped r ∷ es) (suc left) room e = done-all es left room e
 
-  pub sizes : (bs : List Branch) → Each (λ r. length r ≡ 3 * n) (map (recordOf n) bs)
+  pub sizes : (bs : List Branch) → Each (λ r. length r ≡ recordLength n) (map (recordOf n) bs)
   sizes [] = tt
-  sizes (b ∷ bs) = (record-length b n 0, sizes bs)
+  sizes (b ∷ bs) = (record-length b n, sizes bs)
 
 module _ (prob : Problem) (g : Assignment) where
   to-record : (bs : List Branch) → Some (SatisfiesBranch prob g) bs → Some (SatisfiesForm prob g) (map (recordOf (termCount prob)) bs)
@@ -113,13 +84,13 @@ module _ (prob : Problem) (g : Assignment) where
 
 -- the whole run: a assignment satisfies the problem exactly where it satisfies one of the records listed
 pub run-solutions : (prob : Problem) → Valid prob → (budget room : ℕ) → run prob budget room .end ≡ DONE → (g : Assignment)
-    → Satisfies prob g ↔ Some (SatisfiesForm prob g) (listedForms (3 * termCount prob) (run prob budget room .forms) (run prob budget room .records))
+    → Satisfies prob g ↔ Some (SatisfiesForm prob g) (listedForms (termCount prob) (run prob budget room .forms) (run prob budget room .records))
 unfolding run
 run-solutions prob acc budget room e g =
     let es : List Event = log (termCount prob) (constantTerms prob) (prob .constraints) (termCount prob * suc (setCount prob)) (start (termCount prob)) in
     let d = done-all (termCount prob) es budget room e in
     let rs : List (List ℕ) = map (recordOf (termCount prob)) (problemForms prob) in
-    let z : rs ≡ listedForms (3 * termCount prob) (run prob budget room .forms) (run prob budget room .records) = sym (rw (d .0, d .1) (listed-concat (3 * termCount prob) rs (sizes (termCount prob) (problemForms prob)))) in (
+    let z : rs ≡ listedForms (termCount prob) (run prob budget room .forms) (run prob budget room .records) = sym (rw (d .0, d .1) (listed-concat (termCount prob) rs (sizes (termCount prob) (problemForms prob)))) in (
       (λ h. subst (Some (SatisfiesForm prob g)) z (to-record prob g (problemForms prob) (solutions prob acc g .0 h))),
       (λ s. solutions prob acc g .1 (from-record prob g (problemForms prob) (subst (Some (SatisfiesForm prob g)) (sym z) s))),
     )

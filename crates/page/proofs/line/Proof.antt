@@ -3,6 +3,7 @@ use mathlib.Core.Path.{_≡_, refl, sym, ap, _∙_}
 use Prim.Native.Nat.{suc, _+_, _*_, _-_}
 use native.Mathlib.Omega.{arith}
 use Rattle.calculus.specs.Problem.{termCount}
+use Rattle.calculus.specs.Forms.{recordLength}
 use Rattle.page.specs.Writing.{problemIn, lineAt}
 use Rattle.page.proofs.Texts.{wrote-over}
 use Rattle.page.proofs.Values.{known}
@@ -81,7 +82,7 @@ form-line-requires c κs =
     let a = s .args in
     let f = counted-form (a .problem .now) (a .word) (a .forms .now) (s .pre .0) (a .i - 1) (omega (arith, c .before .before .before .before .before .lines .ensures .0)) in
     let k = known (a .problem .now) _ (f .opens _ (c .before .before .before .read .ensures)) in
-    let z : 3 * termCount (problemIn (a .problem .now)) * (a .i - 1) + 3 * termCount (problemIn (a .problem .now)) - 3 * termCount (problemIn (a .problem .now)) * (a .i - 1) ≡ 3 * termCount (problemIn (a .problem .now)) = omega arith in
+    let z : recordLength (termCount (problemIn (a .problem .now))) * (a .i - 1) + recordLength (termCount (problemIn (a .problem .now))) - recordLength (termCount (problemIn (a .problem .now))) * (a .i - 1) ≡ recordLength (termCount (problemIn (a .problem .now))) = omega arith in
     (f .opens _ (c .before .before .before .read .ensures), rw (k .terms, z) (f .listed-is), s .pre .1)
 
 same-length-2 : tie.Need-same-length-2
@@ -93,7 +94,7 @@ returns-3 c =
     let a = s .args in
     let f = counted-form (a .problem .now) (a .word) (a .forms .now) (s .pre .0) (a .i - 1) (omega (arith, c .before .before .before .before .before .before .before .before .lines .ensures .0)) in
     let k = known (a .problem .now) _ (f .opens _ (c .before .before .before .before .before .before .read .ensures)) in
-    let z : 3 * termCount (problemIn (a .problem .now)) * (a .i - 1) + 3 * termCount (problemIn (a .problem .now)) - 3 * termCount (problemIn (a .problem .now)) * (a .i - 1) ≡ 3 * termCount (problemIn (a .problem .now)) = omega arith in
+    let z : recordLength (termCount (problemIn (a .problem .now))) * (a .i - 1) + recordLength (termCount (problemIn (a .problem .now))) - recordLength (termCount (problemIn (a .problem .now))) * (a .i - 1) ≡ recordLength (termCount (problemIn (a .problem .now))) = omega arith in
     let j : a .i ≡ suc (a .i - 1) = omega arith in
     wrote-over (lineAt (a .problem .now) (a .i)) (c .before .before .form-line .ensures) (ap (lineAt (a .problem .now)) j ∙ f .line-is ∙ sym (rw (k .terms, z) refl))
 
