@@ -50,20 +50,18 @@ masked m P p q r e (suc (suc (suc s))) b = none s (ap (λ (n : ℕ). bit n s) (s
 
 -- a term that is its own root
 one : (v : Valuation) (m o : ℕ) → ((A : ℕ) → bit m A ≡ true → v .num (term 0) ∈ v .members (setVar A)) → ((A : ℕ) → bit o A ≡ true → ¬ (v .num (term 0) ∈ v .members (setVar A))) → Agrees 1 v (0 ∷ m ∷ o ∷ [])
+unfolding rootIn insideIn outsideIn
 one v m o p q = record { merges = merged; insides = ins; outsides = outs }
   where
     merged : (t : ℕ) → t < 1 → v .num (term t) ≡ v .num (term (rootIn (0 ∷ m ∷ o ∷ []) t))
-    unfolding rootIn
     merged zero h = refl
     merged (suc t) h = absurd (omega arith)
 
     ins : (t : ℕ) (A : SetVar) → t < 1 → bit (insideIn (0 ∷ m ∷ o ∷ []) t) (A .index) ≡ true → v .num (term t) ∈ v .members A
-    unfolding insideIn
     ins zero A h b = p (A .index) b
     ins (suc t) A h b = absurd (omega arith)
 
     outs : (t : ℕ) (A : SetVar) → t < 1 → bit (outsideIn (0 ∷ m ∷ o ∷ []) t) (A .index) ≡ true → ¬ (v .num (term t) ∈ v .members A)
-    unfolding outsideIn
     outs zero A h b = q (A .index) b
     outs (suc t) A h b = absurd (omega arith)
 
@@ -71,10 +69,10 @@ one v m o p q = record { merges = merged; insides = ins; outsides = outs }
 three : (v : Valuation) (i j k : ℕ) → v .num (term 0) ≡ v .num (term i) → v .num (term 1) ≡ v .num (term j) → v .num (term 2) ≡ v .num (term k)
     → v .num (term 0) ∈ v .members (setVar 0) → v .num (term 1) ∈ v .members (setVar 0) → v .num (term 2) ∈ v .members (setVar 0)
     → Agrees 3 v (i ∷ 1 ∷ 0 ∷ j ∷ 1 ∷ 0 ∷ k ∷ 1 ∷ 0 ∷ [])
+unfolding rootIn insideIn outsideIn
 three v i j k e f g p q r = record { merges = merged; insides = ins; outsides = outs }
   where
     merged : (t : ℕ) → t < 3 → v .num (term t) ≡ v .num (term (rootIn (i ∷ 1 ∷ 0 ∷ j ∷ 1 ∷ 0 ∷ k ∷ 1 ∷ 0 ∷ []) t))
-    unfolding rootIn
     merged zero h = e
     merged (suc zero) h = f
     merged (suc (suc zero)) h = g
@@ -84,14 +82,12 @@ three v i j k e f g p q r = record { merges = merged; insides = ins; outsides = 
     first t m A b = masked 1 (λ s. v .num (term t) ∈ v .members (setVar s)) (λ _. m) no no refl (A .index) b
 
     ins : (t : ℕ) (A : SetVar) → t < 3 → bit (insideIn (i ∷ 1 ∷ 0 ∷ j ∷ 1 ∷ 0 ∷ k ∷ 1 ∷ 0 ∷ []) t) (A .index) ≡ true → v .num (term t) ∈ v .members A
-    unfolding insideIn
     ins zero A h b = first 0 p A b
     ins (suc zero) A h b = first 1 q A b
     ins (suc (suc zero)) A h b = first 2 r A b
     ins (suc (suc (suc t))) A h b = absurd (omega arith)
 
     outs : (t : ℕ) (A : SetVar) → t < 3 → bit (outsideIn (i ∷ 1 ∷ 0 ∷ j ∷ 1 ∷ 0 ∷ k ∷ 1 ∷ 0 ∷ []) t) (A .index) ≡ true → ¬ (v .num (term t) ∈ v .members A)
-    unfolding outsideIn
     outs zero A h b = none (A .index) b
     outs (suc zero) A h b = none (A .index) b
     outs (suc (suc zero)) A h b = none (A .index) b
