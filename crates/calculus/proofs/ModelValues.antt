@@ -1,7 +1,7 @@
 -- The model's values, read off a record of the right shape.
 use mathlib.Core.Path.{_≡_, refl, sym, _∙_, ap, subst}
 use mathlib.Core.Logic.{_↔_}
-use mathlib.Core.Bool.{Bool, true, false, _&&_}
+use mathlib.Core.Bool.{Bool, true, false}
 use mathlib.Core.Option.{Option, none, some}
 use mathlib.Core.List.{List, map}
 use Prim.Native.Nat.{ℕ, _+_, _<_, _≤_}
@@ -14,7 +14,7 @@ use Rattle.calculus.specs.Lists.{bit, keep, first, Each}
 use Rattle.calculus.specs.Terms.{Term, SetVar, term, termsFrom}
 use Rattle.calculus.specs.Meaning.{_∈_}
 use Rattle.calculus.specs.Problem.{Problem, constantCount, termCount, constantTerms, Valid}
-use Rattle.calculus.specs.Forms.{rootIn, insideIn, recordRoot, valueBy, classValue, modelNumber, model}
+use Rattle.calculus.specs.Forms.{rootIn, insideIn, rootInside, recordRoot, valueBy, classValue, modelNumber, model}
 use Rattle.calculus.specs.Demands.{Shape, Valued}
 use Rattle.calculus.proofs.Bools.{and-l, and-r, and-i, clash, first-none, first-some}
 use Rattle.calculus.proofs.Sequences.{terms-each, terms-at, keep-each, keep-at, from-image, image-of}
@@ -56,16 +56,13 @@ module _ (prob : Problem) (acc : Valid prob) (r : List ℕ) (s : Shape prob r) w
 
   -- ---- members
 
-  abbrev pub listed? : SetVar → Term → Bool
-  listed? A t = eqb (rootIn r (t .index)) (t .index) && bit (insideIn r (t .index)) (A .index)
-
   abbrev Member : SetVar → ℤ → Type 0
   Member A x = (t : ℕ) × (t < termCount prob) × (bit (insideIn r t) (A .index) ≡ true) × (x ≡ modelNumber prob r (term t))
 
   to-member : (A : SetVar) (x : ℤ) → x ∈ model prob r .members A → Member A x
   to-member A x m =
-      let z = from-image (λ t. (t .index < termCount prob) × (listed? A t ≡ true)) (modelNumber prob r) (keep (listed? A) (termsFrom 0 (termCount prob))) x
-      (keep-each (λ t. t .index < termCount prob) (listed? A) (termsFrom 0 (termCount prob)) (terms-each (λ t. t .index < termCount prob) 0 (termCount prob) (λ t _ l. omega arith))) m in
+      let z = from-image (λ t. (t .index < termCount prob) × (rootInside r A t ≡ true)) (modelNumber prob r) (keep (rootInside r A) (termsFrom 0 (termCount prob))) x
+      (keep-each (λ t. t .index < termCount prob) (rootInside r A) (termsFrom 0 (termCount prob)) (terms-each (λ t. t .index < termCount prob) 0 (termCount prob) (λ t _ l. omega arith))) m in
       (z .0 .index, z .1 .0, and-r (eqb (rootIn r (z .0 .index)) (z .0 .index)) (bit (insideIn r (z .0 .index)) (A .index)) (z .1 .1), z .2)
 
   from-member : (A : SetVar) (x : ℤ) → Member A x → x ∈ model prob r .members A
@@ -73,11 +70,11 @@ module _ (prob : Problem) (acc : Valid prob) (r : List ℕ) (s : Shape prob r) w
       let h : ℕ = rootIn r t in
       let hl : h < termCount prob = omega (arith, root-low t l) in
       let same : recordRoot r (term h) ≡ recordRoot r (term t) = ap term (s .own t l) in
-      let pass : listed? A (term h) ≡ true = and-i (eq-eqb (rootIn r h) h (s .own t l)) (ap (λ (x : ℕ). bit x (A .index)) (sym (s .shows t l .0)) ∙ q) in
+      let pass : rootInside r A (term h) ≡ true = and-i (eq-eqb (rootIn r h) h (s .own t l)) (ap (λ (x : ℕ). bit x (A .index)) (sym (s .shows t l .0)) ∙ q) in
       let value : modelNumber prob r (term h) ≡ x = ap (λ (y : Term). classValue prob (recordRoot r) y) same ∙ sym e in
       subst (λ (y : ℤ). y ∈ model prob r .members A) value
-      (terms-at (λ t. listed? A t ≡ true → modelNumber prob r t ∈ model prob r .members A) 0 (termCount prob)
-      (keep-at (λ t. modelNumber prob r t ∈ model prob r .members A) (listed? A) (termsFrom 0 (termCount prob)) (image-of (modelNumber prob r) (keep (listed? A) (termsFrom 0 (termCount prob))))) h (omega arith) (omega arith) pass)
+      (terms-at (λ t. rootInside r A t ≡ true → modelNumber prob r t ∈ model prob r .members A) 0 (termCount prob)
+      (keep-at (λ t. modelNumber prob r t ∈ model prob r .members A) (rootInside r A) (termsFrom 0 (termCount prob)) (image-of (modelNumber prob r) (keep (rootInside r A) (termsFrom 0 (termCount prob))))) h (omega arith) (omega arith) pass)
 
   pub valued : Valued prob r
   valued = record {

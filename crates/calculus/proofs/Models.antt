@@ -22,7 +22,7 @@ use Rattle.calculus.specs.Problem.{Problem, constantCount, termCount, se
 use Rattle.calculus.proofs.BranchForms.{formsOf, problemForms, AgreesBranch, branchNumber, branchModel}
 use Rattle.calculus.specs.Run.{Event, formed, stepped, log, Tally, tally, run}
 use Rattle.calculus.specs.Run as R
-use Rattle.calculus.specs.Forms.{recordOf, recordLength, rootIn, insideIn, listedForms, Agrees, SatisfiesForm, recordRoot, classValue, modelNumber, model}
+use Rattle.calculus.specs.Forms.{recordOf, recordLength, rootIn, rootInside, listedForms, Agrees, SatisfiesForm, recordRoot, classValue, modelNumber, model}
 use Rattle.calculus.specs.Reading.{parsed, read}
 use Rattle.calculus.specs.Calls.{Verdict, FORMS, FALSE, ended, verdictOf, over, call}
 use Rattle.calculus.specs.Demands.{Shape, Valued, Models, Verdicts}
@@ -75,6 +75,10 @@ module _ (prob : Problem) (acc : Valid prob) where
 
 -- ---- a record read back
 
+-- what is asked of a listed record
+abbrev pub Modelled : Problem → List ℕ → Type 0
+Modelled prob r = Satisfies prob (model prob r) × Agrees (termCount prob) (values prob (model prob r) (modelNumber prob r)) r × Shape prob r × Valued prob r
+
 -- also past the last term, whose root is itself
 root-anywhere : (n : ℕ) (k : List Term) (b : Branch) → WellFormed n k b → (t : ℕ) → rootIn (recordOf n b) t ≡ rootAt b t
 unfolding rootAt
@@ -117,22 +121,19 @@ module _ (prob : Problem) (acc : Valid prob) (b : Branch) (F : Full (termCount p
   abbrev root? : Term → Bool
   root? t = eqb (rootAt b (t .index)) (t .index)
 
-  abbrev listed? : SetVar → Term → Bool
-  listed? A t = eqb (rootIn B (t .index)) (t .index) && bit (insideIn B (t .index)) (A .index)
-
-  members-are : (A : SetVar) → map (classValue prob (root b)) (keep (λ h. inside b h A) (rootsOf (termCount prob) b)) ≡ map (modelNumber prob B) (keep (listed? A) (termsFrom 0 (termCount prob)))
+  members-are : (A : SetVar) → map (classValue prob (root b)) (keep (λ h. inside b h A) (rootsOf (termCount prob) b)) ≡ map (modelNumber prob B) (keep (rootInside B A) (termsFrom 0 (termCount prob)))
   unfolding inside
   members-are A =
-      let e : keep (listed? A) (termsFrom 0 (termCount prob)) ≡ keep (λ h. inside b h A) (rootsOf (termCount prob) b)
-      = keep-keep root? (λ h. inside b h A) (listed? A) (termsFrom 0 (termCount prob)) (terms-each (λ t. listed? A t ≡ (root? t && inside b t A)) 0 (termCount prob) (λ t _ l. same t (omega arith))) in
+      let e : keep (rootInside B A) (termsFrom 0 (termCount prob)) ≡ keep (λ h. inside b h A) (rootsOf (termCount prob) b)
+      = keep-keep root? (λ h. inside b h A) (rootInside B A) (termsFrom 0 (termCount prob)) (terms-each (λ t. rootInside B A t ≡ (root? t && inside b t A)) 0 (termCount prob) (λ t _ l. same t (omega arith))) in
       map-keep (classValue prob (root b)) (branchNumber prob b) root? (λ h. inside b h A) (termsFrom 0 (termCount prob)) (λ x u. ap (λ (y : ℕ). classValue prob (root b) (term y)) (sym (eqb-true (rootAt b (x .index)) (x .index) u)))
       ∙ ap (λ (f : Term → ℤ). map f (keep (λ h. inside b h A) (rootsOf (termCount prob) b))) numbers-are
       ∙ ap (map (modelNumber prob B)) (sym e)
     where
-      same : (t : ℕ) → t < termCount prob → listed? A (term t) ≡ (root? (term t) && bit (getD (b .insides) t 0) (A .index))
+      same : (t : ℕ) → t < termCount prob → rootInside B A (term t) ≡ (root? (term t) && bit (getD (b .insides) t 0) (A .index))
       same t l = go (eqb (rootAt b t) t) refl
         where
-          go : (c : Bool) → eqb (rootAt b t) t ≡ c → listed? A (term t) ≡ (root? (term t) && bit (getD (b .insides) t 0) (A .index))
+          go : (c : Bool) → eqb (rootAt b t) t ≡ c → rootInside B A (term t) ≡ (root? (term t) && bit (getD (b .insides) t 0) (A .index))
           go true q = rw (root-shown b (termCount prob) t l, q, inside-shown b (termCount prob) t l, eqb-true (rootAt b t) t q)
           go false q = rw (root-shown b (termCount prob) t l, q)
 
@@ -161,11 +162,7 @@ module _ (prob : Problem) (acc : Valid prob) (b : Branch) (F : Full (termCount p
         clear = λ t A l p q. false≢true (sym (F .0 .clean (rootAt b t) (setVar A)) ∙ and-i (ap (λ (x : ℕ). bit x A) (sym (hi t l)) ∙ p) (ap (λ (x : ℕ). bit x A) (sym (ho t l)) ∙ q));
       }
 
-  -- what is asked of a listed record
-  abbrev Model : List ℕ → Type 0
-  Model r = Satisfies prob (model prob r) × Agrees (termCount prob) (values prob (model prob r) (modelNumber prob r)) r × Shape prob r × Valued prob r
-
-  model-true : Satisfies prob (model prob B) × Agrees (termCount prob) (values prob (model prob B) (modelNumber prob B)) B × Shape prob B × Valued prob B
+  model-true : Modelled prob B
   model-true =
       let w = model-both prob acc b F in
       let satisfied : Satisfies prob (branchModel prob b) = Each-zip (InScope prob) (Holds (values prob (branchModel prob b) (branchNumber prob b))) (Holds (values prob (branchModel prob b) (λ _. pos 0))) (prob .constraints)
@@ -206,13 +203,10 @@ models bytes budget forms trace prob e v n c a =
     let L : List Event = log (termCount prob) (constantTerms prob) (prob .constraints) (termCount prob * suc (setCount prob)) (start (termCount prob)) in
     let z : listedForms (termCount prob) c (call bytes budget forms trace .forms) ≡ map (recordOf (termCount prob)) (take (s .forms) (formsOf L))
     = rw (w .forms-are, sym (w .count-is)) (listed-app (termCount prob) (s .forms) (s .records) (drop (length (s .records)) forms) (records-long (termCount prob) L budget (length forms)) ∙ lists (termCount prob) L budget (length forms)) in
-    subst (Each Fine) (sym z)
-    (Each-map Fine (recordOf (termCount prob)) (take (s .forms) (formsOf L))
-    (each-take (λ b. Fine (recordOf (termCount prob) b)) (s .forms) (formsOf L)
-    (Each-zip (Full (termCount prob) (constantTerms prob) (setCount prob) (prob .constraints) (constraints-in prob acc)) (Small (setCount prob)) (λ b. Fine (recordOf (termCount prob) b)) (formsOf L) (λ b F m. model-true prob acc b F m) (forms-full prob acc) (forms-small prob acc))))
-  where
-    Fine : List ℕ → Type 0
-    Fine r = Satisfies prob (model prob r) × Agrees (termCount prob) (values prob (model prob r) (modelNumber prob r)) r × Shape prob r × Valued prob r
+    subst (Each (Modelled prob)) (sym z)
+    (Each-map (Modelled prob) (recordOf (termCount prob)) (take (s .forms) (formsOf L))
+    (each-take (λ b. Modelled prob (recordOf (termCount prob) b)) (s .forms) (formsOf L)
+    (Each-zip (Full (termCount prob) (constantTerms prob) (setCount prob) (prob .constraints) (constraints-in prob acc)) (Small (setCount prob)) (λ b. Modelled prob (recordOf (termCount prob) b)) (formsOf L) (λ b F m. model-true prob acc b F m) (forms-full prob acc) (forms-small prob acc))))
 
 of-false : (e : R.End) (c : ℕ) → verdictOf e c ≡ FALSE → c ≡ 0
 of-false R.DONE zero p = refl
@@ -241,6 +235,6 @@ verdicts bytes budget forms trace prob e n c = (
     gone : (g : Assignment) → Some (SatisfiesForm prob g) [] → ⊥
     gone g s = elim s [ ]
 
-    one : (x : ℕ) → 0 < x → Each (λ r. Satisfies prob (model prob r) × Agrees (termCount prob) (values prob (model prob r) (modelNumber prob r)) r × Shape prob r × Valued prob r) (listedForms (termCount prob) x (call bytes budget forms trace .forms)) → (g : Assignment) × Satisfies prob g
+    one : (x : ℕ) → 0 < x → Each (Modelled prob) (listedForms (termCount prob) x (call bytes budget forms trace .forms)) → (g : Assignment) × Satisfies prob g
     one zero l m = absurd (omega arith)
     one (suc x) l m = (model prob (take (recordLength (termCount prob)) (call bytes budget forms trace .forms)), m .0 .0)

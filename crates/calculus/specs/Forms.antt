@@ -76,11 +76,15 @@ classValue prob rootOf h = valueBy prob h (first (λ (i : Term). eqb (rootOf i .
 abbrev pub modelNumber : Problem → List ℕ → Term → ℤ
 modelNumber prob r t = classValue prob (recordRoot r) (recordRoot r t)
 
+-- t is a root, and its class is known to be in A
+abbrev pub rootInside : List ℕ → SetVar → Term → Bool
+rootInside r A t = eqb (rootIn r (t .index)) (t .index) && bit (insideIn r (t .index)) (A .index)
+
 -- a set holds the values of the classes known to be in it
 abbrev pub model : Problem → List ℕ → Assignment
 model prob r = record {
   number = λ i. modelNumber prob r (term (constantCount prob + i));
-  members = λ A. map (modelNumber prob r) (keep (λ (t : Term). eqb (rootIn r (t .index)) (t .index) && bit (insideIn r (t .index)) (A .index)) (termsFrom 0 (termCount prob)));
+  members = λ A. map (modelNumber prob r) (keep (rootInside r A) (termsFrom 0 (termCount prob)));
 }
 
 -- the model as an assignment to hand in: the variables' numbers in order, then each set's members

@@ -13,15 +13,15 @@ use Rattle.calculus.specs.Branch.{start}
 use Rattle.calculus.specs.Problem.{Problem, termCount, setCount, Assignment, values, Satisfies}
 use Rattle.calculus.specs.Encoding.{Bytes, Written}
 use Rattle.calculus.specs.Reading.{Parsed, parsed, refused, read}
-use Rattle.calculus.specs.Forms.{recordLength, listedForms, Agrees, SatisfiesForm, modelNumber, model}
+use Rattle.calculus.specs.Forms.{recordLength, listedForms, Agrees, SatisfiesForm}
 use Rattle.calculus.specs.Calls.{Verdict, FORMS, FALSE, SPENT, NOROOM, Answer, refusal, ended, Outcome, asked, call, answered, answerWord, answerNumber, verdictNumber}
 use Rattle.calculus.specs.Order.{Progress, unbegun, Works}
-use Rattle.calculus.specs.Demands.{Shape, Valued, Unpacks}
+use Rattle.calculus.specs.Demands.{Unpacks}
 use Rattle.calculus.proofs.AnswerLaws.{answers}
 use Rattle.calculus.proofs.CallLaws.{asked-parsed, kept, follows, same-solutions, covers, only-solutions}
 use Rattle.calculus.proofs.CallQuestions.{refusals}
 use Rattle.calculus.proofs.ReadsWritten.{reads}
-use Rattle.calculus.proofs.Models.{models, verdicts}
+use Rattle.calculus.proofs.Models.{Modelled, models, verdicts}
 use Rattle.calculus.proofs.NoChoice.{one-way}
 use Rattle.calculus.proofs.WorkOrder.{run-goes}
 use Rattle.capi.specs.Contract.{verdictIn, numberIn, stepsIn, formsIn, listedIn, listedBytes, progressIn, Ran, RunContract}
@@ -181,10 +181,7 @@ module _ (bytes : List ℕ) (budget : ℕ) (forms trace : List ℕ) where
       short-paths = short;
     }
       where
-        Modelled : Problem → Type 0
-        Modelled prob = Each (λ r. Satisfies prob (model prob r) × Agrees (termCount prob) (values prob (model prob r) (modelNumber prob r)) r × Shape prob r × Valued prob r) (listedIn prob word (after .forms))
-
-        models-at : (prob : Problem) → read bytes ≡ parsed prob → (a : Answer) → answer ≡ a → Modelled prob
+        models-at : (prob : Problem) → read bytes ≡ parsed prob → (a : Answer) → answer ≡ a → Each (Modelled prob) (listedIn prob word (after .forms))
         models-at prob r (refusal n) e = rw (refused-word n e .1) tt
         models-at prob r (ended v n c) e = rw (ended-word v n c e .2) (models bytes budget forms trace prob r v n c e)
 
