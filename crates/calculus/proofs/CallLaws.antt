@@ -3,14 +3,14 @@ use mathlib.Core.Path.{_≡_, refl, sym, _∙_, ap, ap₂, subst}
 use mathlib.Core.Logic.{_↔_, _≢_, _⊎_, inl, inr}
 use mathlib.Core.Bool.{Bool, true, false, cond, false≢true}
 use mathlib.Core.List.{List, [], _∷_, _++_, map, append-assoc, append-nil}
-use Prim.Native.Nat.{ℕ, zero, suc, _+_, _-_, _*_, _<_, _≤_, zero-le}
+use Prim.Native.Nat.{ℕ, zero, suc, _+_, _*_, _<_, _≤_, zero-le}
 use native.Mathlib.Omega.{arith}
 use native.Mathlib.Nat.{le-of-eq, suc-mul, zero-mul}
 use lib.ListN.{length, length-append, take, drop, length-drop}
 use lib.Seq.{take-at, drop-at, take-append-le, drop-append-le}
 use lib.Dec.{leb}
 use lib.IntN.{ℤ}
-use borrow.Author.Tests.{leb-true, leb-false, le-leb, lt-leb, eq-eqb, eqb-true}
+use borrow.Author.Tests.{leb-true, le-leb, lt-leb, eq-eqb, eqb-true}
 use Rattle.calculus.specs.Terms.{Term}
 use Rattle.calculus.specs.Lists.{Each, Some, here, there, gather, first}
 use Rattle.calculus.specs.Relations.{applies, Negation, unequal, denies}
@@ -30,6 +30,7 @@ use Rattle.calculus.specs.Demands.{Follows, SameSolutions, Stops, Kept}
 use Rattle.calculus.proofs.Bools.{Each-all, Each-imp, Each-app}
 use Rattle.calculus.proofs.Solutions.{Some-any, Some-imp, any-witness}
 use Rattle.calculus.proofs.RecordFields.{record-length}
+use Rattle.calculus.proofs.Tallying.{tally-by}
 use Rattle.calculus.proofs.Records.{run-solutions}
 use Rattle.calculus.proofs.Parsing.{bind-parsed, ask-parsed}
 use Rattle.calculus.proofs.LogEvents.{log-each}
@@ -40,56 +41,29 @@ use Rattle.calculus.proofs.WorkOrder.{run-goes}
 
 module _ (n : ℕ) where
   pub records-long : (es : List Event) (l q : ℕ) → length (tally n l q es .records) ≡ tally n l q es .forms * recordLength n
-  records-long [] l q = sym (zero-mul (recordLength n))
-  records-long (formed b ∷ es) l q = go (leb (length (recordOf n b)) q) refl (records-long es l (q - length (recordOf n b)))
-    where
-      go : (t : Bool) → leb (length (recordOf n b)) q ≡ t → length (tally n l (q - length (recordOf n b)) es .records) ≡ tally n l (q - length (recordOf n b)) es .forms * recordLength n
-          → length (tally n l q (formed b ∷ es) .records) ≡ tally n l q (formed b ∷ es) .forms * recordLength n
-      go true t ih = rw (t, tally) (omega (arith, length-append (recordOf n b) (tally n l (q - length (recordOf n b)) es .records), record-length b n, ih, suc-mul (tally n l (q - length (recordOf n b)) es .forms) (recordLength n)))
-      go false t ih = rw (t, tally) (sym (zero-mul (recordLength n)))
-  records-long (stepped r ∷ es) zero q = sym (zero-mul (recordLength n))
-  records-long (stepped r ∷ es) (suc l) q = records-long es l q
+  records-long =
+      tally-by n (λ l q es t. length (t .records) ≡ t .forms * recordLength n) (λ _ _. sym (zero-mul (recordLength n)))
+      (λ b es l q t _ ih. omega (arith, length-append (recordOf n b) (t .records), record-length b n, ih, suc-mul (t .forms) (recordLength n)))
+      (λ _ _ _ _ _. sym (zero-mul (recordLength n))) (λ _ _ _. sym (zero-mul (recordLength n))) (λ _ _ _ _ _ ih. ih)
 
   pub records-fit : (es : List Event) (l q : ℕ) → length (tally n l q es .records) ≤ q
-  records-fit [] l q = zero-le
-  records-fit (formed b ∷ es) l q = go (leb (length (recordOf n b)) q) refl (records-fit es l (q - length (recordOf n b)))
-    where
-      go : (t : Bool) → leb (length (recordOf n b)) q ≡ t → length (tally n l (q - length (recordOf n b)) es .records) ≤ q - length (recordOf n b) → length (tally n l q (formed b ∷ es) .records) ≤ q
-      go true t ih = rw (t, tally) (omega (arith, length-append (recordOf n b) (tally n l (q - length (recordOf n b)) es .records), ih, leb-true (length (recordOf n b)) q t))
-      go false t ih = rw (t, tally) zero-le
-  records-fit (stepped r ∷ es) zero q = zero-le
-  records-fit (stepped r ∷ es) (suc l) q = records-fit es l q
+  records-fit =
+      tally-by n (λ l q es t. length (t .records) ≤ q) (λ _ _. zero-le) (λ b es l q t f ih. omega (arith, length-append (recordOf n b) (t .records), ih, f))
+      (λ _ _ _ _ _. zero-le) (λ _ _ _. zero-le) (λ _ _ _ _ _ ih. ih)
 
   pub steps-fit : (es : List Event) (l q : ℕ) → tally n l q es .steps ≤ l
-  steps-fit [] l q = zero-le
-  steps-fit (formed b ∷ es) l q = go (leb (length (recordOf n b)) q) refl (steps-fit es l (q - length (recordOf n b)))
-    where
-      go : (t : Bool) → leb (length (recordOf n b)) q ≡ t → tally n l (q - length (recordOf n b)) es .steps ≤ l → tally n l q (formed b ∷ es) .steps ≤ l
-      go true t ih = rw (t, tally) ih
-      go false t ih = rw (t, tally) zero-le
-  steps-fit (stepped r ∷ es) zero q = zero-le
-  steps-fit (stepped r ∷ es) (suc l) q = omega (arith, steps-fit es l q)
+  steps-fit = tally-by n (λ l q es t. t .steps ≤ l) (λ _ _. zero-le) (λ _ _ _ _ _ _ ih. ih) (λ _ _ _ _ _. zero-le) (λ _ _ _. zero-le) (λ _ _ _ _ _ ih. omega (arith, ih))
 
   -- SPENT, NO ROOM
   pub spent-all : (es : List Event) (l q : ℕ) → tally n l q es .end ≡ R.SPENT → tally n l q es .steps ≡ l
-  spent-all [] l q e = let w : false ≡ true = cc in absurd (false≢true w)
-  spent-all (formed b ∷ es) l q e = go (leb (length (recordOf n b)) q) refl (spent-all es l (q - length (recordOf n b)))
-    where
-      go : (t : Bool) → leb (length (recordOf n b)) q ≡ t → (tally n l (q - length (recordOf n b)) es .end ≡ R.SPENT → tally n l (q - length (recordOf n b)) es .steps ≡ l) → tally n l q (formed b ∷ es) .steps ≡ l
-      go true t ih = rw (t, tally) (ih (rw (t, tally) at e))
-      go false t ih = let z : R.NOROOM ≡ R.SPENT = rw (t, tally) at e in let w : false ≡ true = cc in absurd (false≢true w)
-  spent-all (stepped r ∷ es) zero q e = refl
-  spent-all (stepped r ∷ es) (suc l) q e = ap suc (spent-all es l q e)
+  spent-all =
+      tally-by n (λ l q es t. t .end ≡ R.SPENT → t .steps ≡ l) (λ _ _ e. let w : false ≡ true = cc in absurd (false≢true w)) (λ _ _ _ _ _ _ ih. ih) (λ _ _ _ _ _ e. let w : false ≡ true = cc in absurd (false≢true w)) (λ _ _ _ _. refl) (λ _ _ _ _ _ ih e. ap suc (ih e))
 
   pub room-full : (es : List Event) (l q : ℕ) → tally n l q es .end ≡ R.NOROOM → q < suc (tally n l q es .forms) * recordLength n
-  room-full [] l q e = let w : false ≡ true = cc in absurd (false≢true w)
-  room-full (formed b ∷ es) l q e = go (leb (length (recordOf n b)) q) refl (room-full es l (q - length (recordOf n b)))
-    where
-      go : (t : Bool) → leb (length (recordOf n b)) q ≡ t → (tally n l (q - length (recordOf n b)) es .end ≡ R.NOROOM → q - length (recordOf n b) < suc (tally n l (q - length (recordOf n b)) es .forms) * recordLength n) → q < suc (tally n l q (formed b ∷ es) .forms) * recordLength n
-      go true t ih = rw (t, tally) (omega (arith, ih (rw (t, tally) at e), record-length b n, leb-true (length (recordOf n b)) q t, suc-mul (suc (tally n l (q - length (recordOf n b)) es .forms)) (recordLength n)))
-      go false t ih = rw (t, tally) (omega (arith, record-length b n, leb-false (length (recordOf n b)) q t))
-  room-full (stepped r ∷ es) zero q e = let w : false ≡ true = cc in absurd (false≢true w)
-  room-full (stepped r ∷ es) (suc l) q e = room-full es l q e
+  room-full =
+      tally-by n (λ l q es t. t .end ≡ R.NOROOM → q < suc (t .forms) * recordLength n) (λ _ _ e. let w : false ≡ true = cc in absurd (false≢true w))
+      (λ b es l q t f ih e. omega (arith, ih e, record-length b n, f, suc-mul (suc (t .forms)) (recordLength n)))
+      (λ b es l q f e. omega (arith, record-length b n, f)) (λ _ _ _ e. let w : false ≡ true = cc in absurd (false≢true w)) (λ _ _ _ _ _ ih. ih)
 
 -- every step's record has four bytes
 abbrev Four : Event → Type 0
@@ -98,14 +72,9 @@ Four (stepped r) = length r ≡ 4
 
 module _ (n : ℕ) (k : List Term) where
   trace-long : (es : List Event) → Each Four es → (l q : ℕ) → length (tally n l q es .trace) ≡ 4 * tally n l q es .steps
-  trace-long [] f l q = refl
-  trace-long (formed b ∷ es) f l q = go (leb (length (recordOf n b)) q) refl (trace-long es (f .1) l (q - length (recordOf n b)))
-    where
-      go : (t : Bool) → leb (length (recordOf n b)) q ≡ t → length (tally n l (q - length (recordOf n b)) es .trace) ≡ 4 * tally n l (q - length (recordOf n b)) es .steps → length (tally n l q (formed b ∷ es) .trace) ≡ 4 * tally n l q (formed b ∷ es) .steps
-      go true t ih = rw (t, tally) ih
-      go false t ih = rw (t, tally)
-  trace-long (stepped r ∷ es) f zero q = refl
-  trace-long (stepped r ∷ es) f (suc l) q = omega (arith, length-append r (tally n l q es .trace), f .0, trace-long es (f .1) l q)
+  trace-long es f l q =
+      tally-by n (λ l q es t. Each Four es → length (t .trace) ≡ 4 * t .steps) (λ _ _ _. refl) (λ _ _ _ _ _ _ ih f. ih (f .1)) (λ _ _ _ _ _ _. refl) (λ _ _ _ _. refl)
+      (λ r es l q t ih f. omega (arith, length-append r (t .trace), f .0, ih (f .1))) es l q f
 
   module _ (ls : List Constraint) where
     next-four : (b : Branch) (o : Option Candidate) (r : List ℕ) (cs : List Branch) → Ru.taken k b o ≡ step r cs → length r ≡ 4

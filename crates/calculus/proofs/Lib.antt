@@ -28,6 +28,7 @@ pub mod Parsing
 pub mod ReadAssignment
 pub mod Solutions
 pub mod RecordFields
+pub mod Tallying
 pub mod Records
 pub mod Parsers
 pub mod Gapless

@@ -4,13 +4,12 @@ use mathlib.Core.Logic.{_↔_, _≢_, _⊎_, inl, inr}
 use mathlib.Core.Bool.{Bool, true, false, _&&_, cond, false≢true}
 use mathlib.Core.Option.{Option, none, some}
 use mathlib.Core.List.{List, [], _∷_, _++_, map}
-use Prim.Native.Nat.{ℕ, zero, suc, _+_, _-_, _*_, _^_, _<_, zero-le}
+use Prim.Native.Nat.{ℕ, zero, suc, _+_, _*_, _^_, _<_, zero-le}
 use native.Mathlib.Omega.{arith}
 use native.Mathlib.Decide.{decLt}
 use native.Mathlib.Nat.{le-of-eq}
 use lib.ListN.{length, getD, take, drop, List·getD-eq-default}
-use lib.Seq.{take-at, drop-at}
-use lib.Dec.{leb, eqb}
+use lib.Dec.{eqb}
 use lib.IntN.{ℤ, pos}
 use borrow.Author.Tests.{eqb-true}
 use Rattle.calculus.specs.Terms.{Term, SetVar, term, setVar, termsFrom}
@@ -20,7 +19,7 @@ use Rattle.calculus.specs.Branch.{Branch, start, rootAt, root, inside, o
 use Rattle.calculus.specs.Search.{Next, solved, step, next, rootsOf}
 use Rattle.calculus.specs.Problem.{Problem, constantCount, termCount, setCount, constantTerms, Assignment, values, Satisfies, Valid}
 use Rattle.calculus.proofs.BranchForms.{formsOf, problemForms, AgreesBranch, branchNumber, branchModel}
-use Rattle.calculus.specs.Run.{Event, formed, stepped, log, Tally, tally, run}
+use Rattle.calculus.specs.Run.{Event, log, Tally, run}
 use Rattle.calculus.specs.Run as R
 use Rattle.calculus.specs.Forms.{recordOf, recordLength, rootIn, rootInside, listedForms, Agrees, SatisfiesForm, recordRoot, classValue, modelNumber, model}
 use Rattle.calculus.specs.Reading.{parsed, read}
@@ -40,7 +39,7 @@ use Rattle.calculus.proofs.Start.{start-fit}
 use Rattle.calculus.proofs.ConstraintLaws.{InScope, constraints-in, holds-any}
 use Rattle.calculus.proofs.Solutions.{forms-full, model-both, below-is}
 use Rattle.calculus.proofs.RecordFields.{record-length, root-shown, inside-shown, outside-shown, root-past}
-use Rattle.calculus.proofs.Records.{agrees-record}
+use Rattle.calculus.proofs.Records.{agrees-record, lists}
 use Rattle.calculus.proofs.ReadValid.{read-valid}
 use Rattle.calculus.proofs.CallLaws.{records-long, listed-app, was, same-solutions}
 
@@ -175,19 +174,6 @@ module _ (prob : Problem) (acc : Valid prob) (b : Branch) (F : Full (termCount p
       )
 
 -- ---- what a run lists, however it ended
-
-module _ (n : ℕ) where
-  lists : (es : List Event) (l q : ℕ) → listedForms n (tally n l q es .forms) (tally n l q es .records) ≡ map (recordOf n) (take (tally n l q es .forms) (formsOf es))
-  lists [] l q = refl
-  lists (formed b ∷ es) l q = go (leb (length (recordOf n b)) q) refl (lists es l (q - length (recordOf n b)))
-    where
-      go : (t : Bool) → leb (length (recordOf n b)) q ≡ t
-          → listedForms n (tally n l (q - length (recordOf n b)) es .forms) (tally n l (q - length (recordOf n b)) es .records) ≡ map (recordOf n) (take (tally n l (q - length (recordOf n b)) es .forms) (formsOf es))
-          → listedForms n (tally n l q (formed b ∷ es) .forms) (tally n l q (formed b ∷ es) .records) ≡ map (recordOf n) (take (tally n l q (formed b ∷ es) .forms) (formsOf (formed b ∷ es)))
-      go true t ih = rw (t, tally) (ap₂ (λ (x : List ℕ) (y : List (List ℕ)). x ∷ y) (take-at (recordOf n b) (tally n l (q - length (recordOf n b)) es .records) (recordLength n) (record-length b n)) (rw (drop-at (recordOf n b) (tally n l (q - length (recordOf n b)) es .records) (recordLength n) (record-length b n)) ih))
-      go false t ih = rw (t, tally)
-  lists (stepped r ∷ es) zero q = refl
-  lists (stepped r ∷ es) (suc l) q = lists es l q
 
 each-take : (P : Branch → Type 0) (c : ℕ) (bs : List Branch) → Each P bs → Each P (take c bs)
 each-take P zero bs e = tt
