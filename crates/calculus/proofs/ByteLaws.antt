@@ -1,12 +1,10 @@
 -- What a call leaves in the buffers is bytes.
 use mathlib.Core.Path.{_≡_, refl, sym, _∙_, ap, subst}
-use mathlib.Core.Bool.{Bool, true, false}
 use mathlib.Core.List.{List, [], _∷_, _++_}
-use Prim.Native.Nat.{ℕ, zero, suc, _+_, _-_, _*_, _^_, _<_, _≤_}
+use Prim.Native.Nat.{ℕ, zero, suc, _+_, _*_, _^_, _<_, _≤_}
 use native.Mathlib.Omega.{arith}
 use native.Mathlib.Nat.{le-trans, pow-le-pow-right}
 use lib.ListN.{length, drop}
-use lib.Dec.{leb}
 use Rattle.calculus.specs.Limits.{mostSets}
 use Rattle.calculus.specs.Lists.{Each}
 use Rattle.calculus.specs.Branch.{Branch, start, rootAt}
@@ -18,6 +16,7 @@ use Rattle.calculus.specs.Run.{Event, formed, stepped, log, Tally, tally
 use Rattle.calculus.specs.Reading.{Parsed, parsed, refused}
 use Rattle.calculus.specs.Calls.{over, asked, answered, call}
 use Rattle.calculus.specs.Demands.{Bytewise}
+use Rattle.calculus.proofs.Tallying.{tally-by}
 use Rattle.calculus.proofs.Bools.{Each-app}
 use Rattle.calculus.proofs.Asserting.{WellFormed, below}
 use Rattle.calculus.proofs.MaskBounds.{Small}
@@ -45,15 +44,10 @@ Written n (formed b) = Bytes (recordOf n b)
 Written n (stepped r) = Bytes r
 
 tally-bytes : (n : ℕ) (es : List Event) → Each (Written n) es → (l q : ℕ) → Bytes (tally n l q es .records) × Bytes (tally n l q es .trace)
-tally-bytes n [] e l q = (tt, tt)
-tally-bytes n (formed b ∷ es) e l q = go (leb (length (recordOf n b)) q) refl (tally-bytes n es (e .1) l (q - length (recordOf n b)))
-  where
-    go : (t : Bool) → leb (length (recordOf n b)) q ≡ t → Bytes (tally n l (q - length (recordOf n b)) es .records) × Bytes (tally n l (q - length (recordOf n b)) es .trace)
-        → Bytes (tally n l q (formed b ∷ es) .records) × Bytes (tally n l q (formed b ∷ es) .trace)
-    go true t ih = rw (t, tally) (Each-app Byte (recordOf n b) (tally n l (q - length (recordOf n b)) es .records) (e .0) (ih .0), ih .1)
-    go false t ih = rw (t, tally) (tt, tt)
-tally-bytes n (stepped r ∷ es) e zero q = (tt, tt)
-tally-bytes n (stepped r ∷ es) e (suc l) q = let ih = tally-bytes n es (e .1) l q in (ih .0, Each-app Byte r (tally n l q es .trace) (e .0) (ih .1))
+tally-bytes n es e l q =
+    tally-by n (λ l q es t. Each (Written n) es → Bytes (t .records) × Bytes (t .trace)) (λ _ _ _. (tt, tt))
+    (λ b es l q t _ ih e. (Each-app Byte (recordOf n b) (t .records) (e .0) (ih (e .1) .0), ih (e .1) .1)) (λ _ _ _ _ _ _. (tt, tt)) (λ _ _ _ _. (tt, tt))
+    (λ r es l q t ih e. (ih (e .1) .0, Each-app Byte r (t .trace) (e .0) (ih (e .1) .1))) es l q e
 
 module _ (prob : Problem) (acc : Valid prob) where
   mask-byte : (x : ℕ) → x < 2 ^ setCount prob → x < 256

@@ -3,14 +3,14 @@ use mathlib.Core.Path.{_≡_, refl, sym, _∙_, ap, ap₂, subst}
 use mathlib.Core.Logic.{_↔_, _≢_, _⊎_, inl, inr}
 use mathlib.Core.Bool.{Bool, true, false, cond, false≢true}
 use mathlib.Core.List.{List, [], _∷_, _++_, map, append-assoc, append-nil}
-use Prim.Native.Nat.{ℕ, zero, suc, _+_, _-_, _*_, _<_, _≤_, zero-le}
+use Prim.Native.Nat.{ℕ, zero, suc, _+_, _*_, _<_, _≤_, zero-le}
 use native.Mathlib.Omega.{arith}
 use native.Mathlib.Nat.{le-of-eq, suc-mul, zero-mul}
 use lib.ListN.{length, length-append, take, drop, length-drop}
 use lib.Seq.{take-at, drop-at, take-append-le, drop-append-le}
 use lib.Dec.{leb}
 use lib.IntN.{ℤ}
-use borrow.Author.Tests.{leb-true, leb-false, le-leb, lt-leb, eq-eqb, eqb-true}
+use borrow.Author.Tests.{leb-true, le-leb, lt-leb, eq-eqb, eqb-true}
 use Rattle.calculus.specs.Limits.{mostSteps}
 use Rattle.calculus.specs.Terms.{Term}
 use Rattle.calculus.specs.Lists.{Each, Some, here, there, gather, first}
@@ -22,7 +22,7 @@ use Rattle.calculus.specs.Search as Ru
 use Rattle.calculus.specs.Search.{Candidate, Next, solved, step, children, next, places}
 use Rattle.calculus.specs.Problem.{setCount, Problem, termCount, constantTerms, Assignment, values, Satisfies, Valid}
 use Rattle.calculus.specs.Run.{Event, formed, stepped, log, Tally, stop, listForm, takeStep, tally, run}
-use Rattle.calculus.specs.Forms.{recordOf, listedForms, Agrees, SatisfiesForm}
+use Rattle.calculus.specs.Forms.{recordOf, recordLength, listedForms, Agrees, SatisfiesForm}
 use Rattle.calculus.specs.Run as R
 use Rattle.calculus.specs.Reading.{Parsed, parsed, refused, _>>=_, ask, read}
 use Rattle.calculus.specs.Calls.{Verdict, FORMS, FALSE, SPENT, NOROOM, Answer, refusal, ended, Outcome, verdictOf, over, asked, left, answered, call}
@@ -30,7 +30,9 @@ use Rattle.calculus.specs.Order.{Progress, Works}
 use Rattle.calculus.specs.Demands.{Follows, SameSolutions, Stops, Kept}
 use Rattle.calculus.proofs.Bools.{Each-all, Each-imp, Each-app}
 use Rattle.calculus.proofs.Solutions.{Some-any, Some-imp, any-witness}
-use Rattle.calculus.proofs.Records.{record-length, run-solutions}
+use Rattle.calculus.proofs.RecordFields.{record-length}
+use Rattle.calculus.proofs.Tallying.{tally-by}
+use Rattle.calculus.proofs.Records.{run-solutions}
 use Rattle.calculus.proofs.Parsing.{bind-parsed, ask-parsed}
 use Rattle.calculus.proofs.LogEvents.{log-each}
 use Rattle.calculus.proofs.ReadValid.{read-valid}
@@ -39,57 +41,30 @@ use Rattle.calculus.proofs.WorkOrder.{run-goes}
 -- ---- lengths
 
 module _ (n : ℕ) where
-  pub records-long : (es : List Event) (l q : ℕ) → length (tally n l q es .records) ≡ tally n l q es .forms * (3 * n)
-  records-long [] l q = sym (zero-mul (3 * n))
-  records-long (formed b ∷ es) l q = go (leb (length (recordOf n b)) q) refl (records-long es l (q - length (recordOf n b)))
-    where
-      go : (t : Bool) → leb (length (recordOf n b)) q ≡ t → length (tally n l (q - length (recordOf n b)) es .records) ≡ tally n l (q - length (recordOf n b)) es .forms * (3 * n)
-          → length (tally n l q (formed b ∷ es) .records) ≡ tally n l q (formed b ∷ es) .forms * (3 * n)
-      go true t ih = rw (t, tally) (omega (arith, length-append (recordOf n b) (tally n l (q - length (recordOf n b)) es .records), record-length b n 0, ih, suc-mul (tally n l (q - length (recordOf n b)) es .forms) (3 * n)))
-      go false t ih = rw (t, tally) (sym (zero-mul (3 * n)))
-  records-long (stepped r ∷ es) zero q = sym (zero-mul (3 * n))
-  records-long (stepped r ∷ es) (suc l) q = records-long es l q
+  pub records-long : (es : List Event) (l q : ℕ) → length (tally n l q es .records) ≡ tally n l q es .forms * recordLength n
+  records-long =
+      tally-by n (λ l q es t. length (t .records) ≡ t .forms * recordLength n) (λ _ _. sym (zero-mul (recordLength n)))
+      (λ b es l q t _ ih. omega (arith, length-append (recordOf n b) (t .records), record-length b n, ih, suc-mul (t .forms) (recordLength n)))
+      (λ _ _ _ _ _. sym (zero-mul (recordLength n))) (λ _ _ _. sym (zero-mul (recordLength n))) (λ _ _ _ _ _ ih. ih)
 
   pub records-fit : (es : List Event) (l q : ℕ) → length (tally n l q es .records) ≤ q
-  records-fit [] l q = zero-le
-  records-fit (formed b ∷ es) l q = go (leb (length (recordOf n b)) q) refl (records-fit es l (q - length (recordOf n b)))
-    where
-      go : (t : Bool) → leb (length (recordOf n b)) q ≡ t → length (tally n l (q - length (recordOf n b)) es .records) ≤ q - length (recordOf n b) → length (tally n l q (formed b ∷ es) .records) ≤ q
-      go true t ih = rw (t, tally) (omega (arith, length-append (recordOf n b) (tally n l (q - length (recordOf n b)) es .records), ih, leb-true (length (recordOf n b)) q t))
-      go false t ih = rw (t, tally) zero-le
-  records-fit (stepped r ∷ es) zero q = zero-le
-  records-fit (stepped r ∷ es) (suc l) q = records-fit es l q
+  records-fit =
+      tally-by n (λ l q es t. length (t .records) ≤ q) (λ _ _. zero-le) (λ b es l q t f ih. omega (arith, length-append (recordOf n b) (t .records), ih, f))
+      (λ _ _ _ _ _. zero-le) (λ _ _ _. zero-le) (λ _ _ _ _ _ ih. ih)
 
   pub steps-fit : (es : List Event) (l q : ℕ) → tally n l q es .steps ≤ l
-  steps-fit [] l q = zero-le
-  steps-fit (formed b ∷ es) l q = go (leb (length (recordOf n b)) q) refl (steps-fit es l (q - length (recordOf n b)))
-    where
-      go : (t : Bool) → leb (length (recordOf n b)) q ≡ t → tally n l (q - length (recordOf n b)) es .steps ≤ l → tally n l q (formed b ∷ es) .steps ≤ l
-      go true t ih = rw (t, tally) ih
-      go false t ih = rw (t, tally) zero-le
-  steps-fit (stepped r ∷ es) zero q = zero-le
-  steps-fit (stepped r ∷ es) (suc l) q = omega (arith, steps-fit es l q)
+  steps-fit = tally-by n (λ l q es t. t .steps ≤ l) (λ _ _. zero-le) (λ _ _ _ _ _ _ ih. ih) (λ _ _ _ _ _. zero-le) (λ _ _ _. zero-le) (λ _ _ _ _ _ ih. omega (arith, ih))
 
   -- SPENT, NO ROOM
   pub spent-all : (es : List Event) (l q : ℕ) → tally n l q es .end ≡ R.SPENT → tally n l q es .steps ≡ l
-  spent-all [] l q e = let w : false ≡ true = cc in absurd (false≢true w)
-  spent-all (formed b ∷ es) l q e = go (leb (length (recordOf n b)) q) refl (spent-all es l (q - length (recordOf n b)))
-    where
-      go : (t : Bool) → leb (length (recordOf n b)) q ≡ t → (tally n l (q - length (recordOf n b)) es .end ≡ R.SPENT → tally n l (q - length (recordOf n b)) es .steps ≡ l) → tally n l q (formed b ∷ es) .steps ≡ l
-      go true t ih = rw (t, tally) (ih (rw (t, tally) at e))
-      go false t ih = let z : R.NOROOM ≡ R.SPENT = rw (t, tally) at e in let w : false ≡ true = cc in absurd (false≢true w)
-  spent-all (stepped r ∷ es) zero q e = refl
-  spent-all (stepped r ∷ es) (suc l) q e = ap suc (spent-all es l q e)
+  spent-all =
+      tally-by n (λ l q es t. t .end ≡ R.SPENT → t .steps ≡ l) (λ _ _ e. let w : false ≡ true = cc in absurd (false≢true w)) (λ _ _ _ _ _ _ ih. ih) (λ _ _ _ _ _ e. let w : false ≡ true = cc in absurd (false≢true w)) (λ _ _ _ _. refl) (λ _ _ _ _ _ ih e. ap suc (ih e))
 
-  pub room-full : (es : List Event) (l q : ℕ) → tally n l q es .end ≡ R.NOROOM → q < suc (tally n l q es .forms) * (3 * n)
-  room-full [] l q e = let w : false ≡ true = cc in absurd (false≢true w)
-  room-full (formed b ∷ es) l q e = go (leb (length (recordOf n b)) q) refl (room-full es l (q - length (recordOf n b)))
-    where
-      go : (t : Bool) → leb (length (recordOf n b)) q ≡ t → (tally n l (q - length (recordOf n b)) es .end ≡ R.NOROOM → q - length (recordOf n b) < suc (tally n l (q - length (recordOf n b)) es .forms) * (3 * n)) → q < suc (tally n l q (formed b ∷ es) .forms) * (3 * n)
-      go true t ih = rw (t, tally) (omega (arith, ih (rw (t, tally) at e), record-length b n 0, leb-true (length (recordOf n b)) q t, suc-mul (suc (tally n l (q - length (recordOf n b)) es .forms)) (3 * n)))
-      go false t ih = rw (t, tally) (omega (arith, record-length b n 0, leb-false (length (recordOf n b)) q t))
-  room-full (stepped r ∷ es) zero q e = let w : false ≡ true = cc in absurd (false≢true w)
-  room-full (stepped r ∷ es) (suc l) q e = room-full es l q e
+  pub room-full : (es : List Event) (l q : ℕ) → tally n l q es .end ≡ R.NOROOM → q < suc (tally n l q es .forms) * recordLength n
+  room-full =
+      tally-by n (λ l q es t. t .end ≡ R.NOROOM → q < suc (t .forms) * recordLength n) (λ _ _ e. let w : false ≡ true = cc in absurd (false≢true w))
+      (λ b es l q t f ih e. omega (arith, ih e, record-length b n, f, suc-mul (suc (t .forms)) (recordLength n)))
+      (λ b es l q f e. omega (arith, record-length b n, f)) (λ _ _ _ e. let w : false ≡ true = cc in absurd (false≢true w)) (λ _ _ _ _ _ ih. ih)
 
 -- every step's record has four bytes
 abbrev Four : Event → Type 0
@@ -98,14 +73,9 @@ Four (stepped r) = length r ≡ 4
 
 module _ (n : ℕ) (k : List Term) where
   trace-long : (es : List Event) → Each Four es → (l q : ℕ) → length (tally n l q es .trace) ≡ 4 * tally n l q es .steps
-  trace-long [] f l q = refl
-  trace-long (formed b ∷ es) f l q = go (leb (length (recordOf n b)) q) refl (trace-long es (f .1) l (q - length (recordOf n b)))
-    where
-      go : (t : Bool) → leb (length (recordOf n b)) q ≡ t → length (tally n l (q - length (recordOf n b)) es .trace) ≡ 4 * tally n l (q - length (recordOf n b)) es .steps → length (tally n l q (formed b ∷ es) .trace) ≡ 4 * tally n l q (formed b ∷ es) .steps
-      go true t ih = rw (t, tally) ih
-      go false t ih = rw (t, tally)
-  trace-long (stepped r ∷ es) f zero q = refl
-  trace-long (stepped r ∷ es) f (suc l) q = omega (arith, length-append r (tally n l q es .trace), f .0, trace-long es (f .1) l q)
+  trace-long es f l q =
+      tally-by n (λ l q es t. Each Four es → length (t .trace) ≡ 4 * t .steps) (λ _ _ _. refl) (λ _ _ _ _ _ _ ih f. ih (f .1)) (λ _ _ _ _ _ _. refl) (λ _ _ _ _. refl)
+      (λ r es l q t ih f. omega (arith, length-append r (t .trace), f .0, ih (f .1))) es l q f
 
   module _ (ls : List Constraint) where
     next-four : (b : Branch) (o : Option Candidate) (r : List ℕ) (cs : List Branch) → Ru.taken k b o ≡ step r cs → length r ≡ 4
@@ -118,12 +88,13 @@ module _ (n : ℕ) (k : List Term) where
 
 -- ---- the buffers
 
-pub listed-app : (size c : ℕ) (xs ys : List ℕ) → length xs ≡ c * size → listedForms size c (xs ++ ys) ≡ listedForms size c xs
-listed-app size zero xs ys e = refl
-listed-app size (suc c) xs ys e =
+pub listed-app : (n c : ℕ) (xs ys : List ℕ) → length xs ≡ c * recordLength n → listedForms n c (xs ++ ys) ≡ listedForms n c xs
+listed-app n zero xs ys e = refl
+listed-app n (suc c) xs ys e =
+    let size : ℕ = recordLength n in
     let l : size ≤ length xs = omega (arith, e, suc-mul c size) in
     let d : length (drop size xs) ≡ c * size = omega (arith, length-drop size xs, e, suc-mul c size) in
-    rw (take-append-le size xs ys l, drop-append-le size xs ys l, listed-app size c (drop size xs) ys d)
+    rw (take-append-le size xs ys l, drop-append-le size xs ys l, listed-app n c (drop size xs) ys d)
 
 -- ---- what a call is
 
@@ -178,13 +149,13 @@ same-solutions bytes budget forms trace prob e v n c a f g =
     let s : Tally = run prob budget (length forms) in
     let d = finished (s .end) (s .forms) v (w .verdict-is) f in
     let L : List Event = log (termCount prob) (constantTerms prob) (prob .constraints) (termCount prob * suc (setCount prob)) (start (termCount prob)) in
-    let z : listedForms (3 * termCount prob) c (call bytes budget forms trace .forms) ≡ listedForms (3 * termCount prob) (s .forms) (s .records)
-    = rw (w .forms-are, sym (w .count-is)) (listed-app (3 * termCount prob) (s .forms) (s .records) (drop (length (s .records)) forms) (records-long (termCount prob) L budget (length forms))) in
+    let z : listedForms (termCount prob) c (call bytes budget forms trace .forms) ≡ listedForms (termCount prob) (s .forms) (s .records)
+    = rw (w .forms-are, sym (w .count-is)) (listed-app (termCount prob) (s .forms) (s .records) (drop (length (s .records)) forms) (records-long (termCount prob) L budget (length forms))) in
     subst (λ (x : List (List ℕ)). Satisfies prob g ↔ Some (SatisfiesForm prob g) x) (sym z) (run-solutions prob acc budget (length forms) d g)
 
 -- every solution agrees with a listed record
 pub covers : (bytes : List ℕ) (budget : ℕ) (forms trace : List ℕ) (prob : Problem) → read bytes ≡ parsed prob → (v : Verdict) (n c : ℕ) → call bytes budget forms trace .answer ≡ ended v n c → (v ≡ FORMS) ⊎ (v ≡ FALSE)
-    → (g : Assignment) → Satisfies prob g → Some (λ r. (witness : Term → ℤ) × Agrees (termCount prob) (values prob g witness) r) (listedForms (3 * termCount prob) c (call bytes budget forms trace .forms))
+    → (g : Assignment) → Satisfies prob g → Some (λ r. (witness : Term → ℤ) × Agrees (termCount prob) (values prob g witness) r) (listedForms (termCount prob) c (call bytes budget forms trace .forms))
 covers bytes budget forms trace prob e v n c a f g h = Some-imp (SatisfiesForm prob g) (λ r. (witness : Term → ℤ) × Agrees (termCount prob) (values prob g witness) r) (λ r s. (s .0, s .1)) _ (same-solutions bytes budget forms trace prob e v n c a f g .0 h)
 
 -- what satisfies a record is a solution
@@ -200,13 +171,13 @@ follows bytes budget forms trace prob q v n c a =
     let s : Tally = run prob budget (length forms) in
     let L : List Event = log (termCount prob) (constantTerms prob) (prob .constraints) (termCount prob * suc (setCount prob)) (start (termCount prob)) in
     let g = run-goes prob acc budget (length forms) in
-    let long : length (s .records) ≡ c * (3 * termCount prob) = records-long (termCount prob) L budget (length forms) ∙ ap (λ (x : ℕ). x * (3 * termCount prob)) (w .count-is) in
+    let long : length (s .records) ≡ c * recordLength (termCount prob) = records-long (termCount prob) L budget (length forms) ∙ ap (λ (x : ℕ). x * recordLength (termCount prob)) (w .count-is) in
     let four : length (s .trace) ≡ 4 * n = trace-long (termCount prob) (constantTerms prob) L (log-four (termCount prob) (constantTerms prob) (prob .constraints) (termCount prob * suc (setCount prob)) (start (termCount prob))) budget (length forms) ∙ ap (λ (x : ℕ). 4 * x) (w .steps-are) in (
       s .records,
       s .trace,
       g .0,
       rw (w .verdict-is, w .steps-are, w .count-is) at (g .1),
-      sym (ap (take (c * (3 * termCount prob))) (w .forms-are) ∙ take-at (s .records) (drop (length (s .records)) forms) (c * (3 * termCount prob)) long),
+      sym (ap (take (c * recordLength (termCount prob))) (w .forms-are) ∙ take-at (s .records) (drop (length (s .records)) forms) (c * recordLength (termCount prob)) long),
       sym (ap (take (4 * n)) (w .trace-is) ∙ take-at (s .trace) (drop (length (s .trace)) trace) (4 * n) four),
       g .2,
     )
@@ -229,7 +200,7 @@ stops bytes budget forms trace prob e n c =
     let s : Tally = run prob budget (length forms) in
     let L : List Event = log (termCount prob) (constantTerms prob) (prob .constraints) (termCount prob * suc (setCount prob)) (start (termCount prob)) in (
       (λ a. let w = was bytes budget forms trace prob e SPENT n c a in sym (w .steps-are) ∙ spent-all (termCount prob) L budget (length forms) (of-spent (s .end) (s .forms) (w .verdict-is))),
-      (λ a. let w = was bytes budget forms trace prob e NOROOM n c a in subst (λ (x : ℕ). length forms < suc x * (3 * termCount prob)) (w .count-is) (room-full (termCount prob) L budget (length forms) (of-noroom (s .end) (s .forms) (w .verdict-is)))),
+      (λ a. let w = was bytes budget forms trace prob e NOROOM n c a in subst (λ (x : ℕ). length forms < suc x * recordLength (termCount prob)) (w .count-is) (room-full (termCount prob) L budget (length forms) (of-noroom (s .end) (s .forms) (w .verdict-is)))),
     )
 
 -- 12 and 13 are asked after the problem's questions
@@ -272,7 +243,7 @@ kept bytes budget forms trace = (
         few,
         omega (arith, long, fit),
         over-length (s .records) forms fit,
-        drop-at (s .records) (drop (length (s .records)) forms) (s .forms * (3 * termCount prob)) long ∙ ap (λ (k : ℕ). drop k forms) long,
+        drop-at (s .records) (drop (length (s .records)) forms) (s .forms * recordLength (termCount prob)) long ∙ ap (λ (k : ℕ). drop k forms) long,
         over-length (s .trace) trace (omega (arith, four, few, room)),
         drop-at (s .trace) (drop (length (s .trace)) trace) (4 * s .steps) four ∙ ap (λ (k : ℕ). drop k trace) four,
       )),

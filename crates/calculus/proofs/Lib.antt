@@ -27,6 +27,8 @@ pub mod Words
 pub mod Parsing
 pub mod ReadAssignment
 pub mod Solutions
+pub mod RecordFields
+pub mod Tallying
 pub mod Records
 pub mod Parsers
 pub mod Gapless

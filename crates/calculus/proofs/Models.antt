@@ -4,13 +4,12 @@ use mathlib.Core.Logic.{_↔_, _≢_, _⊎_, inl, inr}
 use mathlib.Core.Bool.{Bool, true, false, _&&_, cond, false≢true}
 use mathlib.Core.Option.{Option, none, some}
 use mathlib.Core.List.{List, [], _∷_, _++_, map}
-use Prim.Native.Nat.{ℕ, zero, suc, _+_, _-_, _*_, _^_, _<_, _≤_, zero-le}
+use Prim.Native.Nat.{ℕ, zero, suc, _+_, _*_, _^_, _<_, zero-le}
 use native.Mathlib.Omega.{arith}
 use native.Mathlib.Decide.{decLt}
 use native.Mathlib.Nat.{le-of-eq}
 use lib.ListN.{length, getD, take, drop, List·getD-eq-default}
-use lib.Seq.{take-at, drop-at}
-use lib.Dec.{leb, eqb}
+use lib.Dec.{eqb}
 use lib.IntN.{ℤ, pos}
 use borrow.Author.Tests.{eqb-true}
 use Rattle.calculus.specs.Terms.{Term, SetVar, term, setVar, termsFrom}
@@ -20,9 +19,9 @@ use Rattle.calculus.specs.Branch.{Branch, start, rootAt, root, inside, o
 use Rattle.calculus.specs.Search.{Next, solved, step, next, rootsOf}
 use Rattle.calculus.specs.Problem.{Problem, constantCount, termCount, setCount, constantTerms, Assignment, values, Satisfies, Valid}
 use Rattle.calculus.proofs.BranchForms.{formsOf, problemForms, AgreesBranch, branchNumber, branchModel}
-use Rattle.calculus.specs.Run.{Event, formed, stepped, log, Tally, tally, run}
+use Rattle.calculus.specs.Run.{Event, log, Tally, run}
 use Rattle.calculus.specs.Run as R
-use Rattle.calculus.specs.Forms.{recordFrom, recordOf, listedForms, Agrees, SatisfiesForm, recordRoot, classValue, modelNumber, model}
+use Rattle.calculus.specs.Forms.{recordOf, recordLength, rootIn, rootInside, listedForms, Agrees, SatisfiesForm, recordRoot, classValue, modelNumber, model}
 use Rattle.calculus.specs.Reading.{parsed, read}
 use Rattle.calculus.specs.Calls.{Verdict, FORMS, FALSE, ended, verdictOf, over, call}
 use Rattle.calculus.specs.Demands.{Shape, Valued, Models, Verdicts}
@@ -39,7 +38,8 @@ use Rattle.calculus.proofs.LogEvents.{log-each, OfForm, forms-each}
 use Rattle.calculus.proofs.Start.{start-fit}
 use Rattle.calculus.proofs.ConstraintLaws.{InScope, constraints-in, holds-any}
 use Rattle.calculus.proofs.Solutions.{forms-full, model-both, below-is}
-use Rattle.calculus.proofs.Records.{record-length, root-byte, in-byte, out-byte, agrees-record}
+use Rattle.calculus.proofs.RecordFields.{record-length, root-shown, inside-shown, outside-shown, root-past}
+use Rattle.calculus.proofs.Records.{agrees-record, lists}
 use Rattle.calculus.proofs.ReadValid.{read-valid}
 use Rattle.calculus.proofs.CallLaws.{records-long, listed-app, was, same-solutions}
 
@@ -74,40 +74,18 @@ module _ (prob : Problem) (acc : Valid prob) where
 
 -- ---- a record read back
 
-module _ (n : ℕ) (k : List Term) (m : ℕ) (b : Branch) (F : WellFormed n k b) where
-  abbrev r : List ℕ
-  r = recordOf n b
+-- what is asked of a listed record
+abbrev pub Modelled : Problem → List ℕ → Type 0
+Modelled prob r = Satisfies prob (model prob r) × Agrees (termCount prob) (values prob (model prob r) (modelNumber prob r)) r × Shape prob r × Valued prob r
 
-  at-root : (t : ℕ) → t < n → getD r (3 * t) 0 ≡ rootAt b t
-  at-root t l = root-byte b n 0 t l ∙ ap (rootAt b) (omega arith)
-
-  at-in : (t : ℕ) → t < n → getD r (3 * t + 1) 0 ≡ getD (b .insides) (rootAt b t) 0
-  at-in t l = in-byte b n 0 t l ∙ ap (λ (x : ℕ). getD (b .insides) (rootAt b x) 0) (omega arith)
-
-  at-out : (t : ℕ) → t < n → getD r (3 * t + 2) 0 ≡ getD (b .outsides) (rootAt b t) 0
-  at-out t l = out-byte b n 0 t l ∙ ap (λ (x : ℕ). getD (b .outsides) (rootAt b x) 0) (omega arith)
-
-  -- with any default, also past the last term, whose root is itself
-  root-default : (j s t d : ℕ) → t < j → getD (recordFrom b s j) (3 * t) d ≡ rootAt b (s + t)
-  root-default zero s t d l = absurd (omega arith)
-  root-default (suc j) s zero d l = ap (rootAt b) (omega arith)
-  root-default (suc j) s (suc t) d l =
-      let e : 3 * suc t ≡ suc (suc (suc (3 * t))) = omega arith in
-      rw e (root-default j (suc s) t d (omega arith) ∙ ap (rootAt b) (omega arith))
-
-  past : (t : ℕ) → n ≤ t → rootAt b t ≡ t
-  unfolding rootAt
-  past t l = walk-root (b .parents) (F .falls) t (List·getD-eq-default (b .parents) t {n = t} (omega (arith, F .sized)))
-
-  anywhere : (t : ℕ) → getD r (3 * t) t ≡ rootAt b t
-  anywhere t = go (decLt t n)
-    where
-      go : Dec (t < n) → getD r (3 * t) t ≡ rootAt b t
-      go (yes l) = root-default n 0 t t l ∙ ap (rootAt b) (omega arith)
-      go (no l) = List·getD-eq-default r t {n = 3 * t} (omega (arith, record-length b n 0)) ∙ sym (past t (omega arith))
-
-  root-under : (t : ℕ) → t < n → rootAt b t < n
-  root-under t l = omega (arith, below n k b F t)
+-- also past the last term, whose root is itself
+root-anywhere : (n : ℕ) (k : List Term) (b : Branch) → WellFormed n k b → (t : ℕ) → rootIn (recordOf n b) t ≡ rootAt b t
+unfolding rootAt
+root-anywhere n k b F t = go (decLt t n)
+  where
+    go : Dec (t < n) → rootIn (recordOf n b) t ≡ rootAt b t
+    go (yes l) = root-shown b n t l
+    go (no l) = root-past n (recordOf n b) (record-length b n) t (omega arith) ∙ sym (walk-root (b .parents) (F .falls) t (List·getD-eq-default (b .parents) t {n = t} (omega (arith, F .sized))))
 
 module _ {X : Type 0} (p q s : X → Bool) where
   keep-keep : (xs : List X) → Each (λ x. s x ≡ (p x && q x)) xs → keep s xs ≡ keep q (keep p xs)
@@ -134,7 +112,7 @@ module _ (prob : Problem) (acc : Valid prob) (b : Branch) (F : Full (termCount p
   B = recordOf (termCount prob) b
 
   roots-are : recordRoot B ≡ root b
-  roots-are = fun-ext (λ t. ap term (anywhere (termCount prob) (constantTerms prob) (setCount prob) b (F .0) (t .index)))
+  roots-are = fun-ext (λ t. ap term (root-anywhere (termCount prob) (constantTerms prob) b (F .0) (t .index)))
 
   numbers-are : branchNumber prob b ≡ modelNumber prob B
   numbers-are = ap {B = Term → ℤ} (λ (ρ : Term → Term) (t : Term). classValue prob ρ (ρ t)) (sym roots-are)
@@ -142,24 +120,21 @@ module _ (prob : Problem) (acc : Valid prob) (b : Branch) (F : Full (termCount p
   abbrev root? : Term → Bool
   root? t = eqb (rootAt b (t .index)) (t .index)
 
-  abbrev listed? : SetVar → Term → Bool
-  listed? A t = eqb (recordRoot B t .index) (t .index) && bit (getD B (3 * t .index + 1) 0) (A .index)
-
-  members-are : (A : SetVar) → map (classValue prob (root b)) (keep (λ h. inside b h A) (rootsOf (termCount prob) b)) ≡ map (modelNumber prob B) (keep (listed? A) (termsFrom 0 (termCount prob)))
+  members-are : (A : SetVar) → map (classValue prob (root b)) (keep (λ h. inside b h A) (rootsOf (termCount prob) b)) ≡ map (modelNumber prob B) (keep (rootInside B A) (termsFrom 0 (termCount prob)))
   unfolding inside
   members-are A =
-      let e : keep (listed? A) (termsFrom 0 (termCount prob)) ≡ keep (λ h. inside b h A) (rootsOf (termCount prob) b)
-      = keep-keep root? (λ h. inside b h A) (listed? A) (termsFrom 0 (termCount prob)) (terms-each (λ t. listed? A t ≡ (root? t && inside b t A)) 0 (termCount prob) (λ t _ l. same t (omega arith))) in
+      let e : keep (rootInside B A) (termsFrom 0 (termCount prob)) ≡ keep (λ h. inside b h A) (rootsOf (termCount prob) b)
+      = keep-keep root? (λ h. inside b h A) (rootInside B A) (termsFrom 0 (termCount prob)) (terms-each (λ t. rootInside B A t ≡ (root? t && inside b t A)) 0 (termCount prob) (λ t _ l. same t (omega arith))) in
       map-keep (classValue prob (root b)) (branchNumber prob b) root? (λ h. inside b h A) (termsFrom 0 (termCount prob)) (λ x u. ap (λ (y : ℕ). classValue prob (root b) (term y)) (sym (eqb-true (rootAt b (x .index)) (x .index) u)))
       ∙ ap (λ (f : Term → ℤ). map f (keep (λ h. inside b h A) (rootsOf (termCount prob) b))) numbers-are
       ∙ ap (map (modelNumber prob B)) (sym e)
     where
-      same : (t : ℕ) → t < termCount prob → listed? A (term t) ≡ (root? (term t) && bit (getD (b .insides) t 0) (A .index))
+      same : (t : ℕ) → t < termCount prob → rootInside B A (term t) ≡ (root? (term t) && bit (getD (b .insides) t 0) (A .index))
       same t l = go (eqb (rootAt b t) t) refl
         where
-          go : (c : Bool) → eqb (rootAt b t) t ≡ c → listed? A (term t) ≡ (root? (term t) && bit (getD (b .insides) t 0) (A .index))
-          go true q = rw (anywhere (termCount prob) (constantTerms prob) (setCount prob) b (F .0) t, q, at-in (termCount prob) (constantTerms prob) (setCount prob) b (F .0) t l, eqb-true (rootAt b t) t q)
-          go false q = rw (anywhere (termCount prob) (constantTerms prob) (setCount prob) b (F .0) t, q)
+          go : (c : Bool) → eqb (rootAt b t) t ≡ c → rootInside B A (term t) ≡ (root? (term t) && bit (getD (b .insides) t 0) (A .index))
+          go true q = rw (root-shown b (termCount prob) t l, q, inside-shown b (termCount prob) t l, eqb-true (rootAt b t) t q)
+          go false q = rw (root-shown b (termCount prob) t l, q)
 
   model-is : branchModel prob b ≡ model prob B
   model-is = λ i. record { number = λ j. numbers-are i (term (constantCount prob + j)); members = λ A. members-are A i }
@@ -169,13 +144,12 @@ module _ (prob : Problem) (acc : Valid prob) (b : Branch) (F : Full (termCount p
   shape =
       let n : ℕ = termCount prob in
       let k : List Term = constantTerms prob in
-      let m : ℕ = setCount prob in
-      let hd = at-root n k m b (F .0) in
-      let hi = at-in n k m b (F .0) in
-      let ho = at-out n k m b (F .0) in
-      let un = root-under n k m b (F .0) in
+      let hd = root-shown b n in
+      let hi = inside-shown b n in
+      let ho = outside-shown b n in
+      let un : (t : ℕ) → t < n → rootAt b t < n = λ t l. omega (arith, below n k b (F .0) t) in
       record {
-        long = record-length b n 0;
+        long = record-length b n;
         lowest = λ t u lt lu e. omega (arith, e, hd u lu, below n k b (F .0) u);
         own = λ t l. rw (hd t l) (hd (rootAt b t) (un t l) ∙ still n k b (F .0) t);
         constants = λ i j p q e. F .0 .lone i j (below-is (length (prob .constants)) i p) (below-is (length (prob .constants)) j q) (sym (hd i (omega arith)) ∙ e ∙ hd j (omega arith));
@@ -187,11 +161,7 @@ module _ (prob : Problem) (acc : Valid prob) (b : Branch) (F : Full (termCount p
         clear = λ t A l p q. false≢true (sym (F .0 .clean (rootAt b t) (setVar A)) ∙ and-i (ap (λ (x : ℕ). bit x A) (sym (hi t l)) ∙ p) (ap (λ (x : ℕ). bit x A) (sym (ho t l)) ∙ q));
       }
 
-  -- what is asked of a listed record
-  abbrev Model : List ℕ → Type 0
-  Model r = Satisfies prob (model prob r) × Agrees (termCount prob) (values prob (model prob r) (modelNumber prob r)) r × Shape prob r × Valued prob r
-
-  model-true : Satisfies prob (model prob B) × Agrees (termCount prob) (values prob (model prob B) (modelNumber prob B)) B × Shape prob B × Valued prob B
+  model-true : Modelled prob B
   model-true =
       let w = model-both prob acc b F in
       let satisfied : Satisfies prob (branchModel prob b) = Each-zip (InScope prob) (Holds (values prob (branchModel prob b) (branchNumber prob b))) (Holds (values prob (branchModel prob b) (λ _. pos 0))) (prob .constraints)
@@ -205,19 +175,6 @@ module _ (prob : Problem) (acc : Valid prob) (b : Branch) (F : Full (termCount p
 
 -- ---- what a run lists, however it ended
 
-module _ (n : ℕ) where
-  lists : (es : List Event) (l q : ℕ) → listedForms (3 * n) (tally n l q es .forms) (tally n l q es .records) ≡ map (recordOf n) (take (tally n l q es .forms) (formsOf es))
-  lists [] l q = refl
-  lists (formed b ∷ es) l q = go (leb (length (recordOf n b)) q) refl (lists es l (q - length (recordOf n b)))
-    where
-      go : (t : Bool) → leb (length (recordOf n b)) q ≡ t
-          → listedForms (3 * n) (tally n l (q - length (recordOf n b)) es .forms) (tally n l (q - length (recordOf n b)) es .records) ≡ map (recordOf n) (take (tally n l (q - length (recordOf n b)) es .forms) (formsOf es))
-          → listedForms (3 * n) (tally n l q (formed b ∷ es) .forms) (tally n l q (formed b ∷ es) .records) ≡ map (recordOf n) (take (tally n l q (formed b ∷ es) .forms) (formsOf (formed b ∷ es)))
-      go true t ih = rw (t, tally) (ap₂ (λ (x : List ℕ) (y : List (List ℕ)). x ∷ y) (take-at (recordOf n b) (tally n l (q - length (recordOf n b)) es .records) (3 * n) (record-length b n 0)) (rw (drop-at (recordOf n b) (tally n l (q - length (recordOf n b)) es .records) (3 * n) (record-length b n 0)) ih))
-      go false t ih = rw (t, tally)
-  lists (stepped r ∷ es) zero q = refl
-  lists (stepped r ∷ es) (suc l) q = lists es l q
-
 each-take : (P : Branch → Type 0) (c : ℕ) (bs : List Branch) → Each P bs → Each P (take c bs)
 each-take P zero bs e = tt
 each-take P (suc c) [] e = tt
@@ -230,15 +187,12 @@ models bytes budget forms trace prob e v n c a =
     let acc = read-valid bytes prob e in
     let s : Tally = run prob budget (length forms) in
     let L : List Event = log (termCount prob) (constantTerms prob) (prob .constraints) (termCount prob * suc (setCount prob)) (start (termCount prob)) in
-    let z : listedForms (3 * termCount prob) c (call bytes budget forms trace .forms) ≡ map (recordOf (termCount prob)) (take (s .forms) (formsOf L))
-    = rw (w .forms-are, sym (w .count-is)) (listed-app (3 * termCount prob) (s .forms) (s .records) (drop (length (s .records)) forms) (records-long (termCount prob) L budget (length forms)) ∙ lists (termCount prob) L budget (length forms)) in
-    subst (Each Fine) (sym z)
-    (Each-map Fine (recordOf (termCount prob)) (take (s .forms) (formsOf L))
-    (each-take (λ b. Fine (recordOf (termCount prob) b)) (s .forms) (formsOf L)
-    (Each-zip (Full (termCount prob) (constantTerms prob) (setCount prob) (prob .constraints) (constraints-in prob acc)) (Small (setCount prob)) (λ b. Fine (recordOf (termCount prob) b)) (formsOf L) (λ b F m. model-true prob acc b F m) (forms-full prob acc) (forms-small prob acc))))
-  where
-    Fine : List ℕ → Type 0
-    Fine r = Satisfies prob (model prob r) × Agrees (termCount prob) (values prob (model prob r) (modelNumber prob r)) r × Shape prob r × Valued prob r
+    let z : listedForms (termCount prob) c (call bytes budget forms trace .forms) ≡ map (recordOf (termCount prob)) (take (s .forms) (formsOf L))
+    = rw (w .forms-are, sym (w .count-is)) (listed-app (termCount prob) (s .forms) (s .records) (drop (length (s .records)) forms) (records-long (termCount prob) L budget (length forms)) ∙ lists (termCount prob) L budget (length forms)) in
+    subst (Each (Modelled prob)) (sym z)
+    (Each-map (Modelled prob) (recordOf (termCount prob)) (take (s .forms) (formsOf L))
+    (each-take (λ b. Modelled prob (recordOf (termCount prob) b)) (s .forms) (formsOf L)
+    (Each-zip (Full (termCount prob) (constantTerms prob) (setCount prob) (prob .constraints) (constraints-in prob acc)) (Small (setCount prob)) (λ b. Modelled prob (recordOf (termCount prob) b)) (formsOf L) (λ b F m. model-true prob acc b F m) (forms-full prob acc) (forms-small prob acc))))
 
 of-false : (e : R.End) (c : ℕ) → verdictOf e c ≡ FALSE → c ≡ 0
 of-false R.DONE zero p = refl
@@ -257,7 +211,7 @@ verdicts bytes budget forms trace prob e n c = (
   (λ a.
       let w = was bytes budget forms trace prob e FALSE n c a in
       let z : c ≡ 0 = sym (w .count-is) ∙ of-false (run prob budget (length forms) .end) (run prob budget (length forms) .forms) (w .verdict-is) in
-      (z, λ g h. gone g (subst (λ (x : ℕ). Some (SatisfiesForm prob g) (listedForms (3 * termCount prob) x (call bytes budget forms trace .forms))) z (same-solutions bytes budget forms trace prob e FALSE n c a (inr refl) g .0 h)))),
+      (z, λ g h. gone g (subst (λ (x : ℕ). Some (SatisfiesForm prob g) (listedForms (termCount prob) x (call bytes budget forms trace .forms))) z (same-solutions bytes budget forms trace prob e FALSE n c a (inr refl) g .0 h)))),
   (λ a.
       let w = was bytes budget forms trace prob e FORMS n c a in
       let l : 0 < c = subst (λ (x : ℕ). 0 < x) (w .count-is) (of-forms (run prob budget (length forms) .end) (run prob budget (length forms) .forms) (w .verdict-is)) in
@@ -267,6 +221,6 @@ verdicts bytes budget forms trace prob e n c = (
     gone : (g : Assignment) → Some (SatisfiesForm prob g) [] → ⊥
     gone g s = elim s [ ]
 
-    one : (x : ℕ) → 0 < x → Each (λ r. Satisfies prob (model prob r) × Agrees (termCount prob) (values prob (model prob r) (modelNumber prob r)) r × Shape prob r × Valued prob r) (listedForms (3 * termCount prob) x (call bytes budget forms trace .forms)) → (g : Assignment) × Satisfies prob g
+    one : (x : ℕ) → 0 < x → Each (Modelled prob) (listedForms (termCount prob) x (call bytes budget forms trace .forms)) → (g : Assignment) × Satisfies prob g
     one zero l m = absurd (omega arith)
-    one (suc x) l m = (model prob (take (3 * termCount prob) (call bytes budget forms trace .forms)), m .0 .0)
+    one (suc x) l m = (model prob (take (recordLength (termCount prob)) (call bytes budget forms trace .forms)), m .0 .0)

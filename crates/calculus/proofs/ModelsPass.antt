@@ -3,7 +3,7 @@ use mathlib.Core.Path.{_≡_, refl, sym, _∙_, ap, subst}
 use mathlib.Core.Logic.{_⊎_, inl, inr}
 use mathlib.Core.Bool.{Bool, true, false}
 use mathlib.Core.List.{List, [], _∷_, map}
-use Prim.Native.Nat.{ℕ, zero, suc, _+_, _-_, _*_, _<_, _≤_, zero-le, suc-le-suc}
+use Prim.Native.Nat.{ℕ, zero, suc, _+_, _-_, _<_, _≤_, zero-le, suc-le-suc}
 use native.Mathlib.Omega.{arith}
 use native.Mathlib.Decide.{decLt}
 use native.Mathlib.Nat.{le-of-suc-le-suc}
@@ -17,7 +17,7 @@ use Rattle.calculus.specs.Terms.{Term, SetVar, term, setVar, termsFrom}
 use Rattle.calculus.specs.Meaning.{Valuation, Holds}
 use Rattle.calculus.specs.Problem.{Problem, constantCount, nameable, termCount, setCount, values, Satisfies, Rising, Valid}
 use Rattle.calculus.specs.Encoding.{Bytes, twoBytes, Fits16, Handed, encodeHanded, WrittenAssignment}
-use Rattle.calculus.specs.Forms.{listedForms, Agrees, recordRoot, modelNumber, model, handedModel}
+use Rattle.calculus.specs.Forms.{rootIn, insideIn, rootInside, listedForms, modelNumber, model, handedModel}
 use Rattle.calculus.specs.Check.{assignmentOf}
 use Rattle.calculus.specs.Calls.{HOLDS, check, call}
 use Rattle.calculus.specs.Demands.{Shape, Valued, ModelsPass}
@@ -28,8 +28,7 @@ use Rattle.calculus.proofs.Words.{small-fits, within-fits16, encoded-by
 use Rattle.calculus.proofs.ConstraintLaws.{InScope, holds-same}
 use Rattle.calculus.proofs.ReadAssignment.{reads-assignment}
 use Rattle.calculus.proofs.ReadValid.{read-valid}
-use Rattle.calculus.proofs.ModelValues.{shown, listed?}
-use Rattle.calculus.proofs.Models.{models}
+use Rattle.calculus.proofs.Models.{Modelled, models}
 use Rattle.calculus.proofs.Checking.{checks}
 
 -- ---- a value for each number: how many, and the one at a place
@@ -100,7 +99,7 @@ module _ (prob : Problem) (acc : Valid prob) (r : List ℕ) (s : Shape prob r) (
   value t = modelNumber prob r (term t)
 
   abbrev rootOf : ℕ → ℕ
-  rootOf t = getD r (3 * t) 0
+  rootOf = rootIn r
 
   -- a class whose root is a constant has its value; any other has no constant
   abbrev Value : ℕ → Type 0
@@ -131,16 +130,13 @@ module _ (prob : Problem) (acc : Valid prob) (r : List ℕ) (s : Shape prob r) (
       go (inr a) (inl b) = absurd (omega (arith, a .0, b .0))
       go (inr a) (inr b) = rw (a .1, b .1) (record { lt = le→leb (suc (32001 + rootOf t)) (32001 + rootOf u) (omega arith) })
 
-  abbrev member? : SetVar → Term → Bool
-  member? = listed? prob acc r s
-
-  is-root : (A : SetVar) (t : ℕ) → t < T → member? A (term t) ≡ true → rootOf t ≡ t
-  is-root A t l e = sym (shown prob acc r s t l) ∙ eqb-true (recordRoot r (term t) .index) t (and-l (eqb (recordRoot r (term t) .index) t) (bit (getD r (3 * t + 1) 0) (A .index)) e)
+  is-root : (A : SetVar) (t : ℕ) → rootInside r A (term t) ≡ true → rootOf t ≡ t
+  is-root A t e = eqb-true (rootIn r t) t (and-l (eqb (rootIn r t) t) (bit (insideIn r t) (A .index)) e)
 
   -- a set's members ascend and are few
   members-rising : (A : SetVar) → Rising (model prob r .members A) × (length (model prob r .members A) < 256)
   members-rising A =
-      let z = kept-rising (modelNumber prob r) (member? A) 0 T (λ t u _ l m p q. ascends t u l (omega arith) (is-root A t (omega arith) p) (is-root A u (omega arith) q)) in
+      let z = kept-rising (modelNumber prob r) (rootInside r A) 0 T (λ t u _ l m p q. ascends t u l (omega arith) (is-root A t p) (is-root A u q)) in
       (z .0, omega (arith, z .1, acc .few-terms))
 
   written : WrittenAssignment prob (encodeHanded (handedModel prob r)) (handedModel prob r)
@@ -154,7 +150,7 @@ module _ (prob : Problem) (acc : Valid prob) (r : List ℕ) (s : Shape prob r) (
         rising = Each-map (λ xs. Rising xs × (length xs < 256)) members (upFrom 0 (setCount prob)) (up-each (λ A. Rising (members A) × (length (members A) < 256)) 0 (setCount prob) (λ A _ _. members-rising (setVar A)));
         range = (
           Each-map Fits16 number (upFrom 0 (length (prob .variables))) (up-each (λ i. Fits16 (number i)) 0 (length (prob .variables)) (λ i _ l. fits (K + i) (omega arith))),
-          Each-map (λ xs. Each Fits16 xs) members (upFrom 0 (setCount prob)) (up-each (λ A. Each Fits16 (members A)) 0 (setCount prob) (λ A _ _. kept-each (modelNumber prob r) (member? (setVar A)) Fits16 0 T (λ t _ l _. fits t (omega arith)))),
+          Each-map (λ xs. Each Fits16 xs) members (upFrom 0 (setCount prob)) (up-each (λ A. Each Fits16 (members A)) 0 (setCount prob) (λ A _ _. kept-each (modelNumber prob r) (rootInside r (setVar A)) Fits16 0 T (λ t _ l _. fits t (omega arith)))),
         );
       }
 
@@ -179,16 +175,13 @@ module _ (prob : Problem) (acc : Valid prob) (r : List ℕ) (s : Shape prob r) (
 
 pub models-pass : ModelsPass
 models-pass bytes budget forms trace prob e v n c a =
-    Each-imp Model Passes (listedForms (3 * termCount prob) c (call bytes budget forms trace .forms)) pass
+    Each-imp (Modelled prob) Passes (listedForms (termCount prob) c (call bytes budget forms trace .forms)) pass
     (models bytes budget forms trace prob e v n c a)
   where
-    Model : List ℕ → Type 0
-    Model r = Satisfies prob (model prob r) × Agrees (termCount prob) (values prob (model prob r) (modelNumber prob r)) r × Shape prob r × Valued prob r
-
     Passes : List ℕ → Type 0
     Passes r = let g : Handed = handedModel prob r in Bytes (encodeHanded g) × WrittenAssignment prob (encodeHanded g) g × (check bytes (encodeHanded g) ≡ HOLDS)
 
-    pass : (r : List ℕ) → Model r → Passes r
+    pass : (r : List ℕ) → Modelled prob r → Passes r
     pass r m =
         let acc = read-valid bytes prob e in
         let g : Handed = handedModel prob r in

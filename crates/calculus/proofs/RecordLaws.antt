@@ -1,37 +1,33 @@
 -- A form's record: it is the one that shows exactly what the branch knows, and it states exactly that.
-use mathlib.Core.Path.{_≡_, refl, sym, _∙_, ap, subst}
+use mathlib.Core.Path.{_≡_, sym, _∙_, ap, subst}
 use mathlib.Core.Logic.{_↔_}
 use mathlib.Core.Bool.{Bool, true, false}
-use mathlib.Core.List.{List, [], _∷_}
-use Prim.Native.Nat.{ℕ, zero, suc, _+_, _*_, _/_, _%_, _<_, _≤_}
+use mathlib.Core.List.{List}
+use Prim.Native.Nat.{ℕ, zero, suc, _+_, _/_, _%_, _≤_}
 use native.Mathlib.Omega.{arith}
 use native.Mathlib.Decide.{ℕ-discrete}
-use lib.ListN.{length, getD}
 use lib.Dec.{eqb}
 use borrow.Author.Tests.{eqb-true, eq-eqb}
 use Rattle.calculus.specs.Lists.{bit}
 use Rattle.calculus.specs.Terms.{Term, SetVar, term}
 use Rattle.calculus.specs.Meaning.{_∈_, Valuation}
 use Rattle.calculus.specs.Branch.{Branch, rootAt, inside, outside, Fact, In, Out, Same, known}
-use Rattle.calculus.specs.Forms.{recordOf, Agrees}
+use Rattle.calculus.specs.Forms.{recordOf, insideIn, outsideIn, Agrees}
 use Rattle.calculus.specs.Order.{Recorded, Ranged, TrueOf, Reached}
 use Rattle.calculus.specs.Demands.{Records, States}
 use Rattle.calculus.proofs.Asserting.{below, still}
 use Rattle.calculus.proofs.AssertSpec.{reached-fit}
 use Rattle.calculus.proofs.BranchForms.{AgreesBranch}
-use Rattle.calculus.proofs.Records.{record-length, root-byte, in-byte, out-byte, agrees-record, record-agrees}
+use Rattle.calculus.proofs.RecordFields.{record-length, root-shown, inside-shown, outside-shown, same-record}
+use Rattle.calculus.proofs.Records.{agrees-record, record-agrees}
 
 record-shows : (n : ℕ) (b : Branch) → Recorded n b (recordOf n b)
 unfolding inside outside
 record-shows n b = record {
-  long = record-length b n 0;
-  roots = λ t l. root-byte b n 0 t l ∙ ap (rootAt b) (omega arith);
-  insides = λ t A l.
-      let e : getD (recordOf n b) (3 * t + 1) 0 ≡ getD (b .insides) (rootAt b t) 0 = in-byte b n 0 t l ∙ ap (λ (x : ℕ). getD (b .insides) (rootAt b x) 0) (omega arith) in
-      ((λ p. ap (λ (x : ℕ). bit x (A .index)) (sym e) ∙ p), (λ p. ap (λ (x : ℕ). bit x (A .index)) e ∙ p));
-  outsides = λ t A l.
-      let e : getD (recordOf n b) (3 * t + 2) 0 ≡ getD (b .outsides) (rootAt b t) 0 = out-byte b n 0 t l ∙ ap (λ (x : ℕ). getD (b .outsides) (rootAt b x) 0) (omega arith) in
-      ((λ p. ap (λ (x : ℕ). bit x (A .index)) (sym e) ∙ p), (λ p. ap (λ (x : ℕ). bit x (A .index)) e ∙ p));
+  long = record-length b n;
+  roots = root-shown b n;
+  insides = λ t A l. let e = ap (λ (x : ℕ). bit x (A .index)) (inside-shown b n t l) in ((λ p. sym e ∙ p), (λ p. e ∙ p));
+  outsides = λ t A l. let e = ap (λ (x : ℕ). bit x (A .index)) (outside-shown b n t l) in ((λ p. sym e ∙ p), (λ p. e ∙ p));
 }
 
 -- ---- no other list shows it
@@ -49,28 +45,12 @@ same-mask (suc f) x y l k h =
     go (yes p) (no q) e = absurd (q (eqb-true (y % 2) 1 (h 0 .0 (eq-eqb (x % 2) 1 p))))
     go (no p) (yes q) e = absurd (p (eqb-true (x % 2) 1 (h 0 .1 (eq-eqb (y % 2) 1 q))))
 
-same-list : (xs ys : List ℕ) → length xs ≡ length ys → ((i : ℕ) → i < length xs → getD xs i 0 ≡ getD ys i 0) → xs ≡ ys
-same-list [] [] e h = refl
-same-list [] (y ∷ ys) e h = absurd (omega arith)
-same-list (x ∷ xs) [] e h = absurd (omega arith)
-same-list (x ∷ xs) (y ∷ ys) e h =
-    let a : x ≡ y = h 0 (omega arith) in
-    let b : xs ≡ ys = same-list xs ys (omega arith) (λ i l. h (suc i) (omega arith)) in
-    λ i. a i ∷ b i
-
 module _ (n : ℕ) (b : Branch) (r q : List ℕ) (x : Recorded n b r) (y : Recorded n b q) where
-  same-at : (t k : ℕ) → t < n → k < 3 → getD r (3 * t + k) 0 ≡ getD q (3 * t + k) 0
-  same-at t zero l m = ap (λ (i : ℕ). getD r i 0) (omega arith) ∙ x .roots t l ∙ sym (y .roots t l) ∙ ap (λ (i : ℕ). getD q i 0) (omega arith)
-  same-at t (suc zero) l m = same-mask (getD r (3 * t + 1) 0 + getD q (3 * t + 1) 0) _ _ (omega arith) (omega arith)
-      (λ s. ((λ e. y .insides t (record { index = s }) l .1 (x .insides t (record { index = s }) l .0 e)), λ e. x .insides t (record { index = s }) l .1 (y .insides t (record { index = s }) l .0 e)))
-  same-at t (suc (suc zero)) l m = same-mask (getD r (3 * t + 2) 0 + getD q (3 * t + 2) 0) _ _ (omega arith) (omega arith)
-      (λ s. ((λ e. y .outsides t (record { index = s }) l .1 (x .outsides t (record { index = s }) l .0 e)), λ e. x .outsides t (record { index = s }) l .1 (y .outsides t (record { index = s }) l .0 e)))
-  same-at t (suc (suc (suc k))) l m = absurd (omega arith)
-
   one-record : r ≡ q
-  one-record = same-list r q (x .long ∙ sym (y .long)) (λ i l.
-      let s : i ≡ 3 * (i / 3) + i % 3 = omega arith in
-      ap (λ (k : ℕ). getD r k 0) s ∙ same-at (i / 3) (i % 3) (omega (arith, x .long)) (omega arith) ∙ ap (λ (k : ℕ). getD q k 0) (sym s))
+  one-record =
+      same-record n r (x .long) q (y .long) (λ t l. x .roots t l ∙ sym (y .roots t l))
+      (λ t l. same-mask (insideIn r t + insideIn q t) _ _ (omega arith) (omega arith) (λ s. let A : SetVar = record { index = s } in ((λ e. y .insides t A l .1 (x .insides t A l .0 e)), λ e. x .insides t A l .1 (y .insides t A l .0 e))))
+      (λ t l. same-mask (outsideIn r t + outsideIn q t) _ _ (omega arith) (omega arith) (λ s. let A : SetVar = record { index = s } in ((λ e. y .outsides t A l .1 (x .outsides t A l .0 e)), λ e. x .outsides t A l .1 (y .outsides t A l .0 e))))
 
 pub records : Records
 records n b r = ((λ x. one-record n b (recordOf n b) r (record-shows n b) x), λ e. subst (Recorded n b) e (record-shows n b))

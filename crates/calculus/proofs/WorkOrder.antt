@@ -28,7 +28,6 @@ use Rattle.calculus.proofs.Stepping.{step-fit}
 use Rattle.calculus.proofs.LogLaws.{at-zero}
 use Rattle.calculus.proofs.Start.{start-fit, start-measure}
 use Rattle.calculus.proofs.ConstraintLaws.{constraints-in}
-use Rattle.calculus.proofs.Records.{record-length}
 use Rattle.calculus.proofs.FirstPlace.{first-place}
 use Rattle.calculus.proofs.RecordLaws.{records}
 use Rattle.calculus.proofs.ReadValid.{read-valid}

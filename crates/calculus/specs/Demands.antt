@@ -17,7 +17,7 @@ use Rattle.calculus.specs.Reading.{parsed, refused, read}
 use Rattle.calculus.specs.Questions.{FirstNoOfRun, FirstNoOfCheck, Questions}
 use Rattle.calculus.specs.Branch.{Branch, start, rootAt, Fact, known, assert, assertAll}
 use Rattle.calculus.specs.Search.{distinct, solved, step}
-use Rattle.calculus.specs.Forms.{recordOf, listedForms, Agrees, SatisfiesForm, modelNumber, model, handedModel}
+use Rattle.calculus.specs.Forms.{recordOf, listedForms, Agrees, SatisfiesForm, modelNumber, model, handedModel, recordLength, rootIn, insideIn, outsideIn}
 use Rattle.calculus.specs.Run.{nextOf}
 use Rattle.calculus.specs.Check.{readAssignment, assignmentOf}
 use Rattle.calculus.specs.Calls.{Verdict, FORMS, FALSE, SPENT, NOROOM, Answer, refusal, ended, asked, call, answerNumber, answerWord, Checked, declined, HOLDS, FAILS, check, checkedNumber, checkWord}
@@ -50,8 +50,8 @@ abbrev pub Kept : Type 0
 Kept = (bytes : List ℕ) (budget : ℕ) (forms trace : List ℕ) →
     ((n : ℕ) → asked bytes budget (length trace) ≡ refused n → call bytes budget forms trace ≡ record { answer = refusal n; forms = forms; trace = trace })
     × ((prob : Problem) → asked bytes budget (length trace) ≡ parsed prob → (v : Verdict) × (n c : ℕ) × (call bytes budget forms trace .answer ≡ ended v n c)
-    × (n ≤ budget) × (c * (3 * termCount prob) ≤ length forms)
-    × (length (call bytes budget forms trace .forms) ≡ length forms) × (drop (c * (3 * termCount prob)) (call bytes budget forms trace .forms) ≡ drop (c * (3 * termCount prob)) forms)
+    × (n ≤ budget) × (c * recordLength (termCount prob) ≤ length forms)
+    × (length (call bytes budget forms trace .forms) ≡ length forms) × (drop (c * recordLength (termCount prob)) (call bytes budget forms trace .forms) ≡ drop (c * recordLength (termCount prob)) forms)
     × (length (call bytes budget forms trace .trace) ≡ length trace) × (drop (4 * n) (call bytes budget forms trace .trace) ≡ drop (4 * n) trace))
 
 -- What is left in both buffers is bytes.
@@ -84,7 +84,7 @@ Follows = (bytes : List ℕ) (budget : ℕ) (forms trace : List ℕ) (prob : Pro
     (v : Verdict) (n c : ℕ) → call bytes budget forms trace .answer ≡ ended v n c →
     (records steps ps : List ℕ)
     × Works prob budget (length forms) ((0, start (termCount prob)) ∷ []) unbegun v (record { steps = n; forms = c; records = records; trace = steps }) ps
-    × (records ≡ take (c * (3 * termCount prob)) (call bytes budget forms trace .forms))
+    × (records ≡ take (c * recordLength (termCount prob)) (call bytes budget forms trace .forms))
     × (steps ≡ take (4 * n) (call bytes budget forms trace .trace))
     × Each (λ d. d ≤ termCount prob * suc (setCount prob)) ps
 
@@ -132,27 +132,27 @@ Asserts = (n : ℕ) (constants : List Term) (m : ℕ) → (b : Branch) → Reach
 
 -- A listed record's shape: roots are lowest and their own roots, no two constants share one, every term shows its root's masks, masks are of the problem's sets, and nothing is both in and out.
 pub record Shape (prob : Problem) (r : List ℕ) : Type 0 where
-  pub long : length r ≡ 3 * termCount prob
-  pub lowest : (t u : ℕ) → t < termCount prob → u < termCount prob → getD r (3 * t) 0 ≡ getD r (3 * u) 0 → getD r (3 * t) 0 ≤ u
-  pub own : (t : ℕ) → t < termCount prob → getD r (3 * getD r (3 * t) 0) 0 ≡ getD r (3 * t) 0
-  pub constants : (i j : ℕ) → i < constantCount prob → j < constantCount prob → getD r (3 * i) 0 ≡ getD r (3 * j) 0 → i ≡ j
-  pub shows : (t : ℕ) → t < termCount prob → (getD r (3 * t + 1) 0 ≡ getD r (3 * getD r (3 * t) 0 + 1) 0) × (getD r (3 * t + 2) 0 ≡ getD r (3 * getD r (3 * t) 0 + 2) 0)
-  pub masks : (t : ℕ) → t < termCount prob → (getD r (3 * t + 1) 0 < 2 ^ setCount prob) × (getD r (3 * t + 2) 0 < 2 ^ setCount prob)
-  pub clear : (t A : ℕ) → t < termCount prob → bit (getD r (3 * t + 1) 0) A ≡ true → bit (getD r (3 * t + 2) 0) A ≡ true → ⊥
+  pub long : length r ≡ recordLength (termCount prob)
+  pub lowest : (t u : ℕ) → t < termCount prob → u < termCount prob → rootIn r t ≡ rootIn r u → rootIn r t ≤ u
+  pub own : (t : ℕ) → t < termCount prob → rootIn r (rootIn r t) ≡ rootIn r t
+  pub constants : (i j : ℕ) → i < constantCount prob → j < constantCount prob → rootIn r i ≡ rootIn r j → i ≡ j
+  pub shows : (t : ℕ) → t < termCount prob → (insideIn r t ≡ insideIn r (rootIn r t)) × (outsideIn r t ≡ outsideIn r (rootIn r t))
+  pub masks : (t : ℕ) → t < termCount prob → (insideIn r t < 2 ^ setCount prob) × (outsideIn r t < 2 ^ setCount prob)
+  pub clear : (t A : ℕ) → t < termCount prob → bit (insideIn r t) A ≡ true → bit (outsideIn r t) A ≡ true → ⊥
 
 -- A listed record's model: a class with a constant has that value, any other 32,001 + its root, so at most 32,064; a set holds the values of the classes known to be in it.
 pub record Valued (prob : Problem) (r : List ℕ) : Type 0 where
-  pub constant : (t i : ℕ) → t < termCount prob → i < constantCount prob → getD r (3 * i) 0 ≡ getD r (3 * t) 0 → modelNumber prob r (term t) ≡ getD (prob .constants) i (pos 0)
-  pub free : (t : ℕ) → t < termCount prob → ((i : ℕ) → i < constantCount prob → ¬ (getD r (3 * i) 0 ≡ getD r (3 * t) 0)) → modelNumber prob r (term t) ≡ pos (32001 + getD r (3 * t) 0)
-  pub most : (t : ℕ) → t < termCount prob → 32001 + getD r (3 * t) 0 ≤ 32064
+  pub constant : (t i : ℕ) → t < termCount prob → i < constantCount prob → rootIn r i ≡ rootIn r t → modelNumber prob r (term t) ≡ getD (prob .constants) i (pos 0)
+  pub free : (t : ℕ) → t < termCount prob → ((i : ℕ) → i < constantCount prob → ¬ (rootIn r i ≡ rootIn r t)) → modelNumber prob r (term t) ≡ pos (32001 + rootIn r t)
+  pub most : (t : ℕ) → t < termCount prob → 32001 + rootIn r t ≤ 32064
   pub numbers : (i : ℕ) → model prob r .number i ≡ modelNumber prob r (term (constantCount prob + i))
-  pub members : (A : SetVar) (x : ℤ) → x ∈ model prob r .members A ↔ ((t : ℕ) × (t < termCount prob) × (bit (getD r (3 * t + 1) 0) (A .index) ≡ true) × (x ≡ modelNumber prob r (term t)))
+  pub members : (A : SetVar) (x : ℤ) → x ∈ model prob r .members A ↔ ((t : ℕ) × (t < termCount prob) × (bit (insideIn r t) (A .index) ≡ true) × (x ≡ modelNumber prob r (term t)))
 
 -- Every listed form's model satisfies every constraint and, with the witnesses' values, the form; in any run, however it ended.
 abbrev pub Models : Type 0
 Models = (bytes : List ℕ) (budget : ℕ) (forms trace : List ℕ) (prob : Problem) → read bytes ≡ parsed prob →
     (v : Verdict) (n c : ℕ) → call bytes budget forms trace .answer ≡ ended v n c →
-    Each (λ r. Satisfies prob (model prob r) × Agrees (termCount prob) (values prob (model prob r) (modelNumber prob r)) r × Shape prob r × Valued prob r) (listedForms (3 * termCount prob) c (call bytes budget forms trace .forms))
+    Each (λ r. Satisfies prob (model prob r) × Agrees (termCount prob) (values prob (model prob r) (modelNumber prob r)) r × Shape prob r × Valued prob r) (listedForms (termCount prob) c (call bytes budget forms trace .forms))
 
 -- FALSE is said only if no assignment satisfies the problem, FORMS only if a form is listed.
 abbrev pub Verdicts : Type 0
@@ -164,7 +164,7 @@ Verdicts = (bytes : List ℕ) (budget : ℕ) (forms trace : List ℕ) (prob : Pr
 abbrev pub Stops : Type 0
 Stops = (bytes : List ℕ) (budget : ℕ) (forms trace : List ℕ) (prob : Problem) → read bytes ≡ parsed prob → (n c : ℕ) →
     (call bytes budget forms trace .answer ≡ ended SPENT n c → n ≡ budget)
-    × (call bytes budget forms trace .answer ≡ ended NOROOM n c → length forms < suc c * (3 * termCount prob))
+    × (call bytes budget forms trace .answer ≡ ended NOROOM n c → length forms < suc c * recordLength (termCount prob))
 
 -- ---- demand 3
 
@@ -172,7 +172,7 @@ Stops = (bytes : List ℕ) (budget : ℕ) (forms trace : List ℕ) (prob : Probl
 abbrev pub SameSolutions : Type 0
 SameSolutions = (bytes : List ℕ) (budget : ℕ) (forms trace : List ℕ) (prob : Problem) → read bytes ≡ parsed prob →
     (v : Verdict) (n c : ℕ) → call bytes budget forms trace .answer ≡ ended v n c → (v ≡ FORMS) ⊎ (v ≡ FALSE) →
-    (g : Assignment) → Satisfies prob g ↔ Some (SatisfiesForm prob g) (listedForms (3 * termCount prob) c (call bytes budget forms trace .forms))
+    (g : Assignment) → Satisfies prob g ↔ Some (SatisfiesForm prob g) (listedForms (termCount prob) c (call bytes budget forms trace .forms))
 
 -- No path is longer than terms × (sets + 1), a step that closes its end included. (Of a call's own paths: the last part of Follows.)
 abbrev pub ShortPaths : Type 0
@@ -203,7 +203,7 @@ Checks = (bytes : List ℕ) (assignment : List ℕ) →
 abbrev pub ModelsPass : Type 0
 ModelsPass = (bytes : List ℕ) (budget : ℕ) (forms trace : List ℕ) (prob : Problem) → read bytes ≡ parsed prob →
     (v : Verdict) (n c : ℕ) → call bytes budget forms trace .answer ≡ ended v n c →
-    Each (λ r. let g : Handed = handedModel prob r in Bytes (encodeHanded g) × WrittenAssignment prob (encodeHanded g) g × (check bytes (encodeHanded g) ≡ HOLDS)) (listedForms (3 * termCount prob) c (call bytes budget forms trace .forms))
+    Each (λ r. let g : Handed = handedModel prob r in Bytes (encodeHanded g) × WrittenAssignment prob (encodeHanded g) g × (check bytes (encodeHanded g) ≡ HOLDS)) (listedForms (termCount prob) c (call bytes budget forms trace .forms))
 
 -- ---- all of it
 pub record Demands : Type 0 where

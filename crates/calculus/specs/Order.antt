@@ -4,7 +4,7 @@ use mathlib.Core.Logic.{_⊎_, _↔_, _≢_}
 use mathlib.Core.Bool.{true}
 use mathlib.Core.Option.{Option, none, some}
 use mathlib.Core.List.{List, [], _∷_, _++_, map}
-use Prim.Native.Nat.{ℕ, suc, _+_, _*_, _≤_, _<_}
+use Prim.Native.Nat.{ℕ, suc, _+_, _≤_, _<_}
 use lib.ListN.{length, getD}
 use Rattle.calculus.specs.Lists.{Some, bit}
 use Rattle.calculus.specs.Terms.{Term, SetVar, term, setVar}
@@ -12,6 +12,7 @@ use Rattle.calculus.specs.Relations.{equal, union, disjoint, subset, int
 use Rattle.calculus.specs.Meaning.{Constraint, member, nonmember, same, different, relation, negation, exactly, interval, Valuation, Holds}
 use Rattle.calculus.specs.Branch.{Branch, start, rootAt, root, Fact, In, Out, Same, known, assert}
 use Rattle.calculus.specs.Problem.{Problem, termCount, constantTerms}
+use Rattle.calculus.specs.Forms.{recordLength, rootIn, insideIn, outsideIn}
 use Rattle.calculus.specs.Calls.{Verdict, FORMS, FALSE, SPENT, NOROOM}
 
 -- ---- what a branch knows
@@ -64,10 +65,10 @@ TrueOf v (Same t u) = Holds v (same t u)
 
 -- each term's root, and exactly what is known of its class
 pub record Recorded (n : ℕ) (b : Branch) (r : List ℕ) : Type 0 where
-  pub long : length r ≡ 3 * n
-  pub roots : (t : ℕ) → t < n → getD r (3 * t) 0 ≡ rootAt b t
-  pub insides : (t : ℕ) (A : SetVar) → t < n → (bit (getD r (3 * t + 1) 0) (A .index) ≡ true) ↔ KnownIn b (term t) A
-  pub outsides : (t : ℕ) (A : SetVar) → t < n → (bit (getD r (3 * t + 2) 0) (A .index) ≡ true) ↔ KnownOut b (term t) A
+  pub long : length r ≡ recordLength n
+  pub roots : (t : ℕ) → t < n → rootIn r t ≡ rootAt b t
+  pub insides : (t : ℕ) (A : SetVar) → t < n → (bit (insideIn r t) (A .index) ≡ true) ↔ KnownIn b (term t) A
+  pub outsides : (t : ℕ) (A : SetVar) → t < n → (bit (outsideIn r t) (A .index) ≡ true) ↔ KnownOut b (term t) A
 
 -- ---- where a rule applies
 

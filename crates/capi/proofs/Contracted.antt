@@ -13,15 +13,15 @@ use Rattle.calculus.specs.Branch.{start}
 use Rattle.calculus.specs.Problem.{Problem, termCount, setCount, Assignment, values, Satisfies}
 use Rattle.calculus.specs.Encoding.{Bytes, Written}
 use Rattle.calculus.specs.Reading.{Parsed, parsed, refused, read}
-use Rattle.calculus.specs.Forms.{listedForms, Agrees, SatisfiesForm, modelNumber, model}
+use Rattle.calculus.specs.Forms.{recordLength, listedForms, Agrees, SatisfiesForm}
 use Rattle.calculus.specs.Calls.{Verdict, FORMS, FALSE, SPENT, NOROOM, Answer, refusal, ended, Outcome, asked, call, answered, answerWord, answerNumber, verdictNumber}
 use Rattle.calculus.specs.Order.{Progress, unbegun, Works}
-use Rattle.calculus.specs.Demands.{Shape, Valued, Unpacks}
+use Rattle.calculus.specs.Demands.{Unpacks}
 use Rattle.calculus.proofs.AnswerLaws.{answers}
 use Rattle.calculus.proofs.CallLaws.{asked-parsed, kept, follows, same-solutions, covers, only-solutions}
 use Rattle.calculus.proofs.CallQuestions.{refusals}
 use Rattle.calculus.proofs.ReadsWritten.{reads}
-use Rattle.calculus.proofs.Models.{models, verdicts}
+use Rattle.calculus.proofs.Models.{Modelled, models, verdicts}
 use Rattle.calculus.proofs.NoChoice.{one-way}
 use Rattle.calculus.proofs.WorkOrder.{run-goes}
 use Rattle.capi.specs.Contract.{verdictIn, numberIn, stepsIn, formsIn, listedIn, listedBytes, progressIn, Ran, RunContract}
@@ -115,8 +115,8 @@ module _ (bytes : List ℕ) (budget : ℕ) (forms trace : List ℕ) where
 
     -- what Kept says of them
     abbrev Left : Problem → Type 0
-    Left prob = (v : Verdict) × (n c : ℕ) × (answer ≡ ended v n c) × (n ≤ budget) × (c * (3 * termCount prob) ≤ length forms)
-        × (length (after .forms) ≡ length forms) × (drop (c * (3 * termCount prob)) (after .forms) ≡ drop (c * (3 * termCount prob)) forms)
+    Left prob = (v : Verdict) × (n c : ℕ) × (answer ≡ ended v n c) × (n ≤ budget) × (c * recordLength (termCount prob) ≤ length forms)
+        × (length (after .forms) ≡ length forms) × (drop (c * recordLength (termCount prob)) (after .forms) ≡ drop (c * recordLength (termCount prob)) forms)
         × (length (after .trace) ≡ length trace) × (drop (4 * n) (after .trace) ≡ drop (4 * n) trace)
 
     pub record Stays : Type 0 where
@@ -137,7 +137,7 @@ module _ (bytes : List ℕ) (budget : ℕ) (forms trace : List ℕ) where
           room = omega (arith, w .3);
           long = (ap (length {A = ℕ}) f, ap (length {A = ℕ}) t);
           later = ap (drop (4 * stepsIn word)) t;
-          leaves = λ prob _. record { fit = rw (w .1) (omega (arith, zero-mul (3 * termCount prob))); later = ap (drop (listedBytes prob word)) f };
+          leaves = λ prob _. record { fit = rw (w .1) (omega (arith, zero-mul (recordLength (termCount prob)))); later = ap (drop (listedBytes prob word)) f };
         }
     stays (ended v n c) e =
         let w = ended-word v n c e in
@@ -159,8 +159,8 @@ module _ (bytes : List ℕ) (budget : ℕ) (forms trace : List ℕ) where
             let x : ended (k .0) (k .1) (k .2) ≡ ended v n c = sym (k .3) ∙ e in
             let y : k .2 ≡ formsIn word = cc (ended-word v n c e .2) in
             record {
-              fit = subst (λ (m : ℕ). m * (3 * termCount prob) ≤ length forms) y (k .5);
-              later = subst (λ (m : ℕ). drop (m * (3 * termCount prob)) (after .forms) ≡ drop (m * (3 * termCount prob)) forms) y (k .7);
+              fit = subst (λ (m : ℕ). m * recordLength (termCount prob) ≤ length forms) y (k .5);
+              later = subst (λ (m : ℕ). drop (m * recordLength (termCount prob)) (after .forms) ≡ drop (m * recordLength (termCount prob)) forms) y (k .7);
             }
 
     pub contract : RunContract bytes budget forms trace word (after .forms) (after .trace)
@@ -181,10 +181,7 @@ module _ (bytes : List ℕ) (budget : ℕ) (forms trace : List ℕ) where
       short-paths = short;
     }
       where
-        Modelled : Problem → Type 0
-        Modelled prob = Each (λ r. Satisfies prob (model prob r) × Agrees (termCount prob) (values prob (model prob r) (modelNumber prob r)) r × Shape prob r × Valued prob r) (listedIn prob word (after .forms))
-
-        models-at : (prob : Problem) → read bytes ≡ parsed prob → (a : Answer) → answer ≡ a → Modelled prob
+        models-at : (prob : Problem) → read bytes ≡ parsed prob → (a : Answer) → answer ≡ a → Each (Modelled prob) (listedIn prob word (after .forms))
         models-at prob r (refusal n) e = rw (refused-word n e .1) tt
         models-at prob r (ended v n c) e = rw (ended-word v n c e .2) (models bytes budget forms trace prob r v n c e)
 

@@ -9,6 +9,7 @@ use Rattle.calculus.specs.Branch.{start}
 use Rattle.calculus.specs.Problem.{Problem, termCount}
 use Rattle.calculus.specs.Calls.{Answer, refusal, ended, call, pack, verdictNumber, answerWord, check, checkWord}
 use Rattle.calculus.specs.Order.{Progress, unbegun, Works}
+use Rattle.calculus.specs.Forms.{recordLength}
 use Rattle.capi.specs.Contract.{verdictIn, numberIn, stepsIn, formsIn, listedBytes, progressIn, RefusedIn, Ran, RunContract, Determined, CheckContract, Enough}
 use Rattle.capi.proofs.Contracted as run
 use Rattle.capi.proofs.CheckedCall as checked
@@ -74,7 +75,7 @@ module _ (bytes : List ℕ) (budget : ℕ) (forms trace : List ℕ) (word : ℕ)
       let v : verdictIn word ≡ verdictIn own = r .verdict-is ∙ ap verdictNumber (u .0) ∙ sym (o .verdict-is) in
       let s : stepsIn word ≡ stepsIn own = ap (λ (x : Progress). x .steps) (u .1) in
       let f : formsIn word ≡ formsIn own = ap (λ (x : Progress). x .forms) (u .1) in
-      let k : listedBytes (o .prob) word ≡ listedBytes (o .prob) own = ap (λ (x : ℕ). x * (3 * termCount (o .prob))) f in
+      let k : listedBytes (o .prob) word ≡ listedBytes (o .prob) own = ap (λ (x : ℕ). x * recordLength (termCount (o .prob))) f in
       let t : 4 * stepsIn word ≡ 4 * stepsIn own = ap (λ (x : ℕ). 4 * x) s in (
         same-word word own v (c .unnumbered g ∙ sym (mine .unnumbered h)) s f,
         same-parts _ _ F F₀ k (ap (λ (x : Progress). x .records) (u .1)) (c .later-bytes .3 (o .prob) (o .written) ∙ ap (λ (x : ℕ). drop x forms) k ∙ sym (mine .later-bytes .3 (o .prob) (o .written))),

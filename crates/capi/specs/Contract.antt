@@ -12,7 +12,7 @@ use Rattle.calculus.specs.Branch.{start}
 use Rattle.calculus.specs.Problem.{Problem, termCount, setCount, Assignment, values, Satisfies}
 use Rattle.calculus.specs.Encoding.{Bytes, Written, Handed, WrittenAssignment}
 use Rattle.calculus.specs.Questions.{FirstNoOfRun, FirstNoOfCheck}
-use Rattle.calculus.specs.Forms.{listedForms, Agrees, SatisfiesForm, modelNumber, model}
+use Rattle.calculus.specs.Forms.{recordLength, listedForms, Agrees, SatisfiesForm, modelNumber, model}
 use Rattle.calculus.specs.Check.{assignmentOf}
 use Rattle.calculus.specs.Calls.{Verdict, Answer, call, answerNumber, answerWord, verdictNumber, Checked, check, checkWord, checkedNumber}
 use Rattle.calculus.specs.Order.{Progress, unbegun, Works}
@@ -34,11 +34,11 @@ formsIn word = word / 4294967296
 
 -- the forms that a call lists: the records at the form buffer's start, as many as the word counts
 abbrev pub listedIn : Problem → ℕ → List ℕ → List (List ℕ)
-listedIn prob word forms = listedForms (3 * termCount prob) (formsIn word) forms
+listedIn prob word forms = listedForms (termCount prob) (formsIn word) forms
 
 -- how many bytes they take
 abbrev pub listedBytes : Problem → ℕ → ℕ
-listedBytes prob word = formsIn word * (3 * termCount prob)
+listedBytes prob word = formsIn word * recordLength (termCount prob)
 
 -- what the call has done, by its word and buffers
 abbrev pub progressIn : Problem → ℕ → List ℕ → List ℕ → Progress

@@ -3,7 +3,7 @@ use mathlib.Core.Path.{_≡_, refl, sym, _∙_, ap}
 use mathlib.Core.Logic.{_⊎_, inl, inr}
 use mathlib.Core.Bool.{true, false, false≢true}
 use mathlib.Core.List.{List, [], _∷_}
-use Prim.Native.Nat.{ℕ, zero, suc, _+_, _*_, _/_, _<_}
+use Prim.Native.Nat.{ℕ, zero, suc, _/_, _<_}
 use native.Mathlib.Omega.{arith}
 use lib.IntN.{ℤ, pos, negsuc}
 use lib.ListN.{getD}
@@ -13,7 +13,7 @@ use Rattle.calculus.specs.Relations.{union}
 use Rattle.calculus.specs.Meaning.{_∈_, Valuation, member, exactly, relation}
 use Rattle.calculus.specs.Problem.{Problem, Assignment, Satisfies}
 use Rattle.calculus.specs.Reading.{parsed, _>>=_, ask, byte, bytes, readConstraints, readSets, readVariables, readConstants, read, eqZ}
-use Rattle.calculus.specs.Forms.{Agrees, SatisfiesForm}
+use Rattle.calculus.specs.Forms.{recordLength, rootIn, insideIn, outsideIn, Agrees, SatisfiesForm}
 use Rattle.calculus.specs.Demands.{Shape}
 use Rattle.calculus.proofs.Masks.{bit-zero}
 
@@ -50,17 +50,18 @@ masked m P p q r e (suc (suc (suc s))) b = none s (ap (λ (n : ℕ). bit n s) (s
 
 -- a term that is its own root
 one : (v : Valuation) (m o : ℕ) → ((A : ℕ) → bit m A ≡ true → v .num (term 0) ∈ v .members (setVar A)) → ((A : ℕ) → bit o A ≡ true → ¬ (v .num (term 0) ∈ v .members (setVar A))) → Agrees 1 v (0 ∷ m ∷ o ∷ [])
+unfolding rootIn insideIn outsideIn
 one v m o p q = record { merges = merged; insides = ins; outsides = outs }
   where
-    merged : (t : ℕ) → t < 1 → v .num (term t) ≡ v .num (term (getD (0 ∷ m ∷ o ∷ []) (3 * t) 0))
+    merged : (t : ℕ) → t < 1 → v .num (term t) ≡ v .num (term (rootIn (0 ∷ m ∷ o ∷ []) t))
     merged zero h = refl
     merged (suc t) h = absurd (omega arith)
 
-    ins : (t : ℕ) (A : SetVar) → t < 1 → bit (getD (0 ∷ m ∷ o ∷ []) (3 * t + 1) 0) (A .index) ≡ true → v .num (term t) ∈ v .members A
+    ins : (t : ℕ) (A : SetVar) → t < 1 → bit (insideIn (0 ∷ m ∷ o ∷ []) t) (A .index) ≡ true → v .num (term t) ∈ v .members A
     ins zero A h b = p (A .index) b
     ins (suc t) A h b = absurd (omega arith)
 
-    outs : (t : ℕ) (A : SetVar) → t < 1 → bit (getD (0 ∷ m ∷ o ∷ []) (3 * t + 2) 0) (A .index) ≡ true → ¬ (v .num (term t) ∈ v .members A)
+    outs : (t : ℕ) (A : SetVar) → t < 1 → bit (outsideIn (0 ∷ m ∷ o ∷ []) t) (A .index) ≡ true → ¬ (v .num (term t) ∈ v .members A)
     outs zero A h b = q (A .index) b
     outs (suc t) A h b = absurd (omega arith)
 
@@ -68,9 +69,10 @@ one v m o p q = record { merges = merged; insides = ins; outsides = outs }
 three : (v : Valuation) (i j k : ℕ) → v .num (term 0) ≡ v .num (term i) → v .num (term 1) ≡ v .num (term j) → v .num (term 2) ≡ v .num (term k)
     → v .num (term 0) ∈ v .members (setVar 0) → v .num (term 1) ∈ v .members (setVar 0) → v .num (term 2) ∈ v .members (setVar 0)
     → Agrees 3 v (i ∷ 1 ∷ 0 ∷ j ∷ 1 ∷ 0 ∷ k ∷ 1 ∷ 0 ∷ [])
+unfolding rootIn insideIn outsideIn
 three v i j k e f g p q r = record { merges = merged; insides = ins; outsides = outs }
   where
-    merged : (t : ℕ) → t < 3 → v .num (term t) ≡ v .num (term (getD (i ∷ 1 ∷ 0 ∷ j ∷ 1 ∷ 0 ∷ k ∷ 1 ∷ 0 ∷ []) (3 * t) 0))
+    merged : (t : ℕ) → t < 3 → v .num (term t) ≡ v .num (term (rootIn (i ∷ 1 ∷ 0 ∷ j ∷ 1 ∷ 0 ∷ k ∷ 1 ∷ 0 ∷ []) t))
     merged zero h = e
     merged (suc zero) h = f
     merged (suc (suc zero)) h = g
@@ -79,13 +81,13 @@ three v i j k e f g p q r = record { merges = merged; insides = ins; outsides = 
     first : (t : ℕ) → v .num (term t) ∈ v .members (setVar 0) → (A : SetVar) → bit 1 (A .index) ≡ true → v .num (term t) ∈ v .members A
     first t m A b = masked 1 (λ s. v .num (term t) ∈ v .members (setVar s)) (λ _. m) no no refl (A .index) b
 
-    ins : (t : ℕ) (A : SetVar) → t < 3 → bit (getD (i ∷ 1 ∷ 0 ∷ j ∷ 1 ∷ 0 ∷ k ∷ 1 ∷ 0 ∷ []) (3 * t + 1) 0) (A .index) ≡ true → v .num (term t) ∈ v .members A
+    ins : (t : ℕ) (A : SetVar) → t < 3 → bit (insideIn (i ∷ 1 ∷ 0 ∷ j ∷ 1 ∷ 0 ∷ k ∷ 1 ∷ 0 ∷ []) t) (A .index) ≡ true → v .num (term t) ∈ v .members A
     ins zero A h b = first 0 p A b
     ins (suc zero) A h b = first 1 q A b
     ins (suc (suc zero)) A h b = first 2 r A b
     ins (suc (suc (suc t))) A h b = absurd (omega arith)
 
-    outs : (t : ℕ) (A : SetVar) → t < 3 → bit (getD (i ∷ 1 ∷ 0 ∷ j ∷ 1 ∷ 0 ∷ k ∷ 1 ∷ 0 ∷ []) (3 * t + 2) 0) (A .index) ≡ true → ¬ (v .num (term t) ∈ v .members A)
+    outs : (t : ℕ) (A : SetVar) → t < 3 → bit (outsideIn (i ∷ 1 ∷ 0 ∷ j ∷ 1 ∷ 0 ∷ k ∷ 1 ∷ 0 ∷ []) t) (A .index) ≡ true → ¬ (v .num (term t) ∈ v .members A)
     outs zero A h b = none (A .index) b
     outs (suc zero) A h b = none (A .index) b
     outs (suc (suc zero)) A h b = none (A .index) b
@@ -113,6 +115,7 @@ in-B-holds = (λ x. (λ c. inr c, later), (inl refl, tt))
 
 -- x is not in A: it satisfies the second record, not the first
 pub not-inside : Parted c10 in-B (0 ∷ 5 ∷ 0 ∷ []) (0 ∷ 4 ∷ 0 ∷ []) (0 ∷ 6 ∷ 1 ∷ [])
+unfolding insideIn
 not-inside = record {
   satisfies = in-B-holds;
   refuses = λ s. s .1 .insides 0 (setVar 0) (omega arith) refl;
@@ -133,6 +136,7 @@ in-both-holds = (λ x. (λ c. inl c, either), (inl refl, tt))
 
 -- x is not out of A: it satisfies the first record, not the second
 pub not-outside : Parted c10 in-both (0 ∷ 6 ∷ 1 ∷ []) (0 ∷ 6 ∷ 0 ∷ []) (0 ∷ 5 ∷ 0 ∷ [])
+unfolding outsideIn
 not-outside = record {
   satisfies = in-both-holds;
   refuses = λ s. s .1 .outsides 0 (setVar 0) (omega arith) refl (inl refl);
@@ -158,6 +162,7 @@ as-x-holds = (inr (inl refl), ((λ x. (λ m. m, λ m. m)), tt))
 
 -- z has not y's value: it satisfies the second record, not the first
 pub not-merged : Parted y-or-x as-x (0 ∷ 1 ∷ 0 ∷ 1 ∷ 1 ∷ 0 ∷ 1 ∷ 1 ∷ 0 ∷ []) (0 ∷ 1 ∷ 0 ∷ 1 ∷ 1 ∷ 0 ∷ 2 ∷ 1 ∷ 0 ∷ []) (0 ∷ 1 ∷ 0 ∷ 1 ∷ 1 ∷ 0 ∷ 0 ∷ 1 ∷ 0 ∷ [])
+unfolding rootIn
 not-merged = record {
   satisfies = as-x-holds;
   refuses = λ s. false≢true (ap (λ (x : ℤ). eqZ x (pos 1)) (s .1 .merges 2 (omega arith)));
@@ -179,16 +184,18 @@ any-number = ((inl refl, tt), (inl refl, tt))
 abbrev shaped : Problem
 shaped = record { constants = pos 3 ∷ pos 4 ∷ []; variables = 120 ∷ []; sets = 65 ∷ 66 ∷ []; witnesses = 0; constraints = [] }
 
--- a byte too few; a root that is not the lowest; a root that is not its own; two constants with one root; masks that are not the root's; a third set; in and out of B
+-- a byte too few; a root that is not the lowest; a root that is no term; two constants with one root; masks that are not the root's; a third set; in and out of B. And of three variables: a root that is not its own
 pub no-shape : (¬ Shape shaped (0 ∷ 0 ∷ 0 ∷ 1 ∷ 0 ∷ 0 ∷ 2 ∷ 0 ∷ [])) × (¬ Shape shaped (2 ∷ 0 ∷ 0 ∷ 1 ∷ 0 ∷ 0 ∷ 2 ∷ 0 ∷ 0 ∷ [])) × (¬ Shape shaped (0 ∷ 0 ∷ 0 ∷ 1 ∷ 0 ∷ 0 ∷ 3 ∷ 0 ∷ 0 ∷ []))
     × (¬ Shape shaped (0 ∷ 0 ∷ 0 ∷ 0 ∷ 0 ∷ 0 ∷ 2 ∷ 0 ∷ 0 ∷ [])) × (¬ Shape shaped (0 ∷ 1 ∷ 0 ∷ 1 ∷ 0 ∷ 0 ∷ 0 ∷ 0 ∷ 0 ∷ [])) × (¬ Shape shaped (0 ∷ 4 ∷ 0 ∷ 1 ∷ 0 ∷ 0 ∷ 2 ∷ 0 ∷ 0 ∷ []))
-    × (¬ Shape shaped (0 ∷ 2 ∷ 2 ∷ 1 ∷ 0 ∷ 0 ∷ 2 ∷ 0 ∷ 0 ∷ []))
+    × (¬ Shape shaped (0 ∷ 2 ∷ 2 ∷ 1 ∷ 0 ∷ 0 ∷ 2 ∷ 0 ∷ 0 ∷ [])) × (¬ Shape y-or-x (0 ∷ 0 ∷ 0 ∷ 0 ∷ 0 ∷ 0 ∷ 1 ∷ 0 ∷ 0 ∷ []))
+unfolding recordLength rootIn insideIn outsideIn
 no-shape = (
   (λ s. omega (arith, s .long)),
   (λ s. omega (arith, s .lowest 0 0 (omega arith) (omega arith) refl)),
-  (λ s. omega (arith, s .own 2 (omega arith))),
+  (λ s. omega (arith, s .lowest 2 2 (omega arith) (omega arith) refl)),
   (λ s. omega (arith, s .constants 0 1 (omega arith) (omega arith) refl)),
   (λ s. omega (arith, s .shows 2 (omega arith) .0)),
   (λ s. omega (arith, s .masks 0 (omega arith) .0)),
   (λ s. s .clear 0 1 (omega arith) refl refl),
+  (λ s. omega (arith, s .own 2 (omega arith))),
 )

@@ -7,6 +7,7 @@ use Rattle.calculus.specs.Reading.{_>>=_, ask, byte, bytes, readConstraints, re
 use Rattle.calculus.specs.Search.{next}
 use Rattle.calculus.specs.Run.{run}
 use Rattle.calculus.specs.Branch.{start, assert, rootAt, inside, outside, addInside, addOutside, merge, torn}
+use Rattle.calculus.specs.Forms.{recordLength, rootIn, insideIn}
 use Rattle.calculus.specs.Calls.{Answer, refusal, ended, FORMS, FALSE, SPENT, NOROOM, asked, call}
 use Rattle.page.specs.Text.{decimal}
 use Rattle.page.specs.Listing.{formLine, heading, listing, programCall}
@@ -63,7 +64,7 @@ table =
     ∷ []
 
 rows : map (λ (r : Row). listing (r .problem)) table ≡ map (λ (r : Row). r .lines) table
-unfolding table listing programCall formLine decimal start assert next run rootAt inside outside addInside addOutside merge torn _>>=_ ask byte bytes readConstraints readSets readVariables readConstants read asked call
+unfolding table recordLength rootIn insideIn listing programCall formLine decimal start assert next run rootAt inside outside addInside addOutside merge torn _>>=_ ask byte bytes readConstraints readSets readVariables readConstants read asked call
 rows = refl
 
 -- answers, and the first lines that say them

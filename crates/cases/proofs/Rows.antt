@@ -37,7 +37,7 @@ expected (model problem form values) = ofModel (parsed values)
 
 -- what the definitions give. Where this unfolds, all that they compute with does
 unfoldable pub given : Row → Result
-unfolding start assert next Run.run rootAt inside outside addInside addOutside merge torn _>>=_ ask byte bytes readConstraints readSets readVariables readConstants read asked call count numbers readAssignment Calls.check
+unfolding start assert next Run.run rootAt inside outside addInside addOutside merge torn _>>=_ ask byte bytes readConstraints readSets readVariables readConstants read Forms.rootIn Forms.insideIn asked call count numbers readAssignment Calls.check
 given (run problem budget formLength traceLength answer records trace) = ofRun (call problem budget (lent formLength) (lent traceLength))
 given (check problem assignment answer) = ofCheck (Calls.check problem assignment)
 given (model problem form values) = ofModel (do

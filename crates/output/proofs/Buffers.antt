@@ -1,15 +1,15 @@
 -- Bytes written at a place of a buffer.
 use mathlib.Core.Path.{_≡_, sym, ap, _∙_}
 use mathlib.Core.List.{List, [], _++_, append-assoc}
-use Prim.Native.Nat.{ℕ, _+_, _*_, _≤_}
+use Prim.Native.Nat.{ℕ, _+_, _≤_}
 use native.Mathlib.Omega.{arith}
 use native.Mathlib.Nat.{add-zero, zero-add}
 use lib.ListN.{length, length-append, length-drop, take, drop, take-append-drop}
 use lib.Seq.{paste, take-length, take-at, drop-at, drop-drop, length-take-le}
 use Rattle.calculus.specs.Branch.{Branch}
-use Rattle.calculus.specs.Forms.{recordOf}
+use Rattle.calculus.specs.Forms.{recordLength, recordOf}
 use Rattle.calculus.specs.Calls.{over}
-use Rattle.calculus.proofs.Records.{record-length}
+use Rattle.calculus.proofs.RecordFields.{record-length}
 use Rattle.output.specs.State.{putAt}
 
 -- a copy of all the bytes
@@ -17,8 +17,8 @@ pub paste-whole : (d : List ℕ) (at k : ℕ) (r : List ℕ) → k ≡ length r 
 paste-whole d at k r e = rw (e, take-length r) (append-assoc (take at d) r (drop (at + length r) d))
 
 -- the first bytes of a record with more after it are the record
-pub record-front : (b : Branch) (n : ℕ) (r more : List ℕ) → r ≡ recordOf n b ++ more → take (3 * n) r ≡ recordOf n b
-record-front b n r more e = rw e (take-at (recordOf n b) more (3 * n) (record-length b n 0))
+pub record-front : (b : Branch) (n size : ℕ) (r more : List ℕ) → size ≡ recordLength n → r ≡ recordOf n b ++ more → take size r ≡ recordOf n b
+record-front b n size r more l e = rw e (take-at (recordOf n b) more size (record-length b n ∙ sym l))
 
 -- as long as it was
 pub put-length : (d : List ℕ) (at : ℕ) (r : List ℕ) → at + length r ≤ length d → length (putAt d at r) ≡ length d

@@ -10,8 +10,8 @@ use lib.Dec.{leb, eqb}
 use borrow.Author.Tests.{leb-true, leb-false, ne-eqb, eqb-true, eqb-false}
 use Rattle.calculus.specs.Lists.{Each}
 use Rattle.calculus.specs.Run.{Event, formed, stepped}
-use Rattle.calculus.specs.Forms.{recordOf}
-use Rattle.calculus.proofs.Records.{record-length}
+use Rattle.calculus.specs.Forms.{recordLength, recordOf}
+use Rattle.calculus.proofs.RecordFields.{record-length}
 use Rattle.output.specs.State.{State, listed, noted, event, play, Fine}
 use Rattle.output.proofs.Buffers.{put-length}
 use Rattle.output.proofs.Listing.{listed-there, listed-not, noted-there, noted-not}
@@ -45,20 +45,20 @@ module _ (n budget : ℕ) where
     pub forms-length : length (t .forms) ≡ length (s .forms)
     pub trace-length : length (t .trace) ≡ length (s .trace)
 
-  kept : (s t : State) → Fine n budget s → t .counts .steps ≤ budget → 3 * n * t .counts .forms ≤ length (s .forms) → length (t .forms) ≡ length (s .forms) → length (t .trace) ≡ length (s .trace) → Kept s t
+  kept : (s t : State) → Fine n budget s → t .counts .steps ≤ budget → recordLength n * t .counts .forms ≤ length (s .forms) → length (t .forms) ≡ length (s .forms) → length (t .trace) ≡ length (s .trace) → Kept s t
   kept s t F a w f g = record { fine = record { within = a; few = F .few; traced = omega (arith, F .traced, g); written = omega arith }; forms-length = f; trace-length = g }
 
   same-kept : (s : State) → Fine n budget s → Kept s s
   same-kept s F = record { fine = F; forms-length = refl; trace-length = refl }
 
-  listed-kept : (s : State) → Fine n budget s → (r : List ℕ) → length r ≡ 3 * n → Kept s (listed n r s)
-  listed-kept s F r e = go (leb (3 * n * s .counts .forms + 3 * n) (length (s .forms))) refl
+  listed-kept : (s : State) → Fine n budget s → (r : List ℕ) → length r ≡ recordLength n → Kept s (listed n r s)
+  listed-kept s F r e = go (leb (recordLength n * s .counts .forms + recordLength n) (length (s .forms))) refl
     where
-      go : (t : Bool) → leb (3 * n * s .counts .forms + 3 * n) (length (s .forms)) ≡ t → Kept s (listed n r s)
+      go : (t : Bool) → leb (recordLength n * s .counts .forms + recordLength n) (length (s .forms)) ≡ t → Kept s (listed n r s)
       go true q =
-          let l = leb-true (3 * n * s .counts .forms + 3 * n) (length (s .forms)) q in
-          rw (listed-there n r s l) (kept s _ F (F .within) (omega (arith, l, mul-suc (3 * n) (s .counts .forms))) (put-length (s .forms) (3 * n * s .counts .forms) r (omega arith)) refl)
-      go false q = rw (listed-not n r s (leb-false (3 * n * s .counts .forms + 3 * n) (length (s .forms)) q)) (kept s _ F (F .within) (F .written) refl refl)
+          let l = leb-true (recordLength n * s .counts .forms + recordLength n) (length (s .forms)) q in
+          rw (listed-there n r s l) (kept s _ F (F .within) (omega (arith, l, mul-suc (recordLength n) (s .counts .forms))) (put-length (s .forms) (recordLength n * s .counts .forms) r (omega arith)) refl)
+      go false q = rw (listed-not n r s (leb-false (recordLength n * s .counts .forms + recordLength n) (length (s .forms)) q)) (kept s _ F (F .within) (F .written) refl refl)
 
   noted-kept : (s : State) → Fine n budget s → (r : List ℕ) → length r ≡ 4 → Kept s (noted budget r s)
   noted-kept s F r e = go (eqb (s .counts .steps) budget) refl
@@ -75,7 +75,7 @@ module _ (n budget : ℕ) where
   fine-kept s F (formed b) w = go (eqb (s .counts .stop) 0) refl
     where
       go : (t : Bool) → eqb (s .counts .stop) 0 ≡ t → Kept s (event n budget s (formed b))
-      go true q = rw (q, event) (listed-kept s F (recordOf n b) (record-length b n 0))
+      go true q = rw (q, event) (listed-kept s F (recordOf n b) (record-length b n))
       go false q = rw (q, event) (same-kept s F)
   fine-kept s F (stepped r) w = go (eqb (s .counts .stop) 0) refl
     where

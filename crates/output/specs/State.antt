@@ -5,7 +5,7 @@ use Prim.Native.Nat.{ℕ, zero, suc, _+_, _*_, _≤_}
 use lib.ListN.{length, take, drop}
 use lib.Dec.{eqb, leb}
 use Rattle.calculus.specs.Limits.{mostSteps}
-use Rattle.calculus.specs.Forms.{recordOf}
+use Rattle.calculus.specs.Forms.{recordLength, recordOf}
 use Rattle.calculus.specs.Run.{Event, formed, stepped, End, DONE, SPENT, NOROOM, Tally}
 use Rattle.calculus.specs.Calls.{over}
 use Rattle.output.specs.declared.Counts.{Counts}
@@ -38,8 +38,8 @@ endOf stop = cond (eqb stop 0) DONE (cond (eqb stop 1) SPENT NOROOM)
 
 -- a solved form of n terms: its record is written after the others if it fits
 unfoldable pub listed : ℕ → List ℕ → State → State
-listed n r s = cond (leb (3 * n * s .counts .forms + 3 * n) (length (s .forms)))
-    (state (counted (s .counts .steps) (suc (s .counts .forms)) 0) (putAt (s .forms) (3 * n * s .counts .forms) r) (s .trace))
+listed n r s = cond (leb (recordLength n * s .counts .forms + recordLength n) (length (s .forms)))
+    (state (counted (s .counts .steps) (suc (s .counts .forms)) 0) (putAt (s .forms) (recordLength n * s .counts .forms) r) (s .trace))
     (state (counted (s .counts .steps) (s .counts .forms) 2) (s .forms) (s .trace))
 
 -- a step: if the budget has one left
@@ -70,4 +70,4 @@ pub record Fine (n budget : ℕ) (s : State) : Type 0 where
   pub within : s .counts .steps ≤ budget
   pub few : budget ≤ mostSteps
   pub traced : 4 * budget ≤ length (s .trace)
-  pub written : 3 * n * s .counts .forms ≤ length (s .forms)
+  pub written : recordLength n * s .counts .forms ≤ length (s .forms)

@@ -1,11 +1,12 @@
 // What a run writes: records of solved forms and of steps, and the counts.
 use branch::Branch;
+use branch::record_length;
 ghost use mathlib.Core.Path.{_≡_};
 ghost use mathlib.Core.List.{[], _∷_};
 ghost use Prim.Native.Nat.{_+_, _*_, _≤_, _<_};
 ghost use lib.ListN.{length};
 ghost use Rattle.calculus.specs.Limits.{mostTerms};
-ghost use Rattle.calculus.specs.Forms.{recordOf};
+ghost use Rattle.calculus.specs.Forms.{recordOf, recordLength};
 ghost use Rattle.calculus.specs.Invariants.{Falls};
 ghost use Rattle.branch.specs.Held.{held};
 ghost use Rattle.output.specs.State.{putAt, state, listed, noted, Fine};
@@ -29,10 +30,10 @@ pub fn put(bytes: &[u8], buffer: &mut [u8], at: usize)
 
 // Lists a solved form of the first terms, if its record fits what is left of the form buffer.
 pub fn list_form(b: Branch, terms: u8, c: Counts, forms: &mut [u8]) -> Counts
-    requires { ⌜ (terms ≤ mostTerms) × Falls (b .parents) × (3 * terms * c .forms ≤ length (now forms)) × (terms ≡ 0 → c .forms ≡ 0) ⌝ }
+    requires { ⌜ (terms ≤ mostTerms) × Falls (b .parents) × (recordLength terms * c .forms ≤ length (now forms)) × (terms ≡ 0 → c .forms ≡ 0) ⌝ }
     ensures { λ r. ⌜ state r (now (forms .exit)) [] ≡ listed terms (recordOf terms (held b)) (state c (now (forms .entry)) []) ⌝ }
 {
-    let size = 3 * (terms as usize);
+    let size = record_length(terms);
     let at = size * c.forms;
     if forms.len() - at < size {
         return Counts {

@@ -8,7 +8,7 @@ use lib.ListN.{length, getD, take, drop, replicate, length-map, length-replicate
 use lib.Seq.{drop-drop}
 use Rattle.calculus.specs.Problem.{Problem, termCount}
 use Rattle.calculus.specs.Reading.{Parsed, parsed, refused, read}
-use Rattle.calculus.specs.Forms.{listedForms}
+use Rattle.calculus.specs.Forms.{recordLength, listedForms}
 use Rattle.calculus.specs.Calls.{Answer, refusal, ended, answerWord}
 use Rattle.calculus.proofs.AnswerLaws.{answers}
 use Rattle.calculus.proofs.CallLaws.{asks, kept}
@@ -30,16 +30,17 @@ traceBuffer = replicate 4000 0
 
 -- ---- the listed records, one by one
 
-listed-length : (size c : ℕ) (bs : List ℕ) → length (listedForms size c bs) ≡ c
-listed-length size zero bs = refl
-listed-length size (suc c) bs = ap suc (listed-length size c (drop size bs))
+listed-length : (n c : ℕ) (bs : List ℕ) → length (listedForms n c bs) ≡ c
+listed-length n zero bs = refl
+listed-length n (suc c) bs = ap suc (listed-length n c (drop (recordLength n) bs))
 
-listed-at : (size c : ℕ) (bs : List ℕ) (j : ℕ) → j < c → getD (listedForms size c bs) j [] ≡ take size (drop (size * j) bs)
-listed-at size zero bs j l = absurd (omega arith)
-listed-at size (suc c) bs zero l = ap (λ (n : ℕ). take size (drop n bs)) (sym (mul-zero size))
-listed-at size (suc c) bs (suc j) l =
+listed-at : (n c : ℕ) (bs : List ℕ) (j : ℕ) → j < c → getD (listedForms n c bs) j [] ≡ take (recordLength n) (drop (recordLength n * j) bs)
+listed-at n zero bs j l = absurd (omega arith)
+listed-at n (suc c) bs zero l = ap (λ (k : ℕ). take (recordLength n) (drop k bs)) (sym (mul-zero (recordLength n)))
+listed-at n (suc c) bs (suc j) l =
+    let size : ℕ = recordLength n in
     let e : size + size * j ≡ size * suc j = omega (arith, mul-suc size j) in
-    listed-at size c (drop size bs) j (le-of-suc-le-suc l) ∙ ap (take size) (drop-drop (size * j) size bs ∙ ap (λ (n : ℕ). drop n bs) e)
+    listed-at n c (drop size bs) j (le-of-suc-le-suc l) ∙ ap (take size) (drop-drop (size * j) size bs ∙ ap (λ (n : ℕ). drop n bs) e)
 
 map-at : {A : Type 0} (f : A → List ℕ) (xs : List A) (d : A) (j : ℕ) → j < length xs → getD (map f xs) j [] ≡ f (getD xs j d)
 map-at f [] d j l = absurd (omega arith)
@@ -68,7 +69,7 @@ module _ (bytes : List ℕ) (word : ℕ) (forms : List ℕ) (ran : Ran bytes wor
   lines-counted = ap (λ (n : ℕ). 1 + n) counted ∙ go (read bytes) refl
     where
       go : (m : Parsed Problem) → read bytes ≡ m → 1 + formsOf (programCall bytes .answer) ≡ length (linesOf m (programCall bytes))
-      go (parsed prob) e = omega (arith, length-map (formRecords prob (programCall bytes)) (formLine prob), listed-length (3 * termCount prob) (formsOf (programCall bytes .answer)) (programCall bytes .forms))
+      go (parsed prob) e = omega (arith, length-map (formRecords prob (programCall bytes)) (formLine prob), listed-length (termCount prob) (formsOf (programCall bytes .answer)) (programCall bytes .forms))
       go (refused n) e = let q = kept bytes 1000 formBuffer traceBuffer .0 n (asks bytes 1000 (length traceBuffer) .0 n e) in omega (arith, ap (λ o. formsOf (o .answer)) q)
 
   pub no-line : (i : ℕ) → length (listing bytes) ≤ i → lineAt bytes i ≡ []
@@ -78,10 +79,10 @@ module _ (bytes : List ℕ) (word : ℕ) (forms : List ℕ) (ran : Ran bytes wor
   -- the record of a form that is counted, and its line
   pub record Counted (prob : Problem) (j : ℕ) : Type 0 where
     pub opens : (tab : Table) → tab ≡ tableOf bytes → Opened bytes tab
-    pub fits : 3 * termCount prob * j + 3 * termCount prob ≤ length forms
+    pub fits : recordLength (termCount prob) * j + recordLength (termCount prob) ≤ length forms
     pub long : length forms ≡ 32768
-    pub listed-is : Shaped prob (take (3 * termCount prob) (drop (3 * termCount prob * j) forms))
-    pub line-is : lineAt bytes (suc j) ≡ formLine prob (take (3 * termCount prob) (drop (3 * termCount prob * j) forms))
+    pub listed-is : Shaped prob (take (recordLength (termCount prob)) (drop (recordLength (termCount prob) * j) forms))
+    pub line-is : lineAt bytes (suc j) ≡ formLine prob (take (recordLength (termCount prob)) (drop (recordLength (termCount prob) * j) forms))
 
   pub counted-form : (j : ℕ) → j < word / 4294967296 → Counted (problemIn bytes) j
   unfolding programCall lineAt listing problemOf tableOf tableIs problemTable
@@ -91,20 +92,21 @@ module _ (bytes : List ℕ) (word : ℕ) (forms : List ℕ) (ran : Ran bytes wor
       go (refusal n) e = absurd (omega (arith, l, counted, ap formsOf e))
       go (ended v n c) e =
           let a = accepted bytes 1000 formBuffer traceBuffer v n c e in
-          let size : ℕ = 3 * termCount (a .prob) in
+          let terms : ℕ = termCount (a .prob) in
+          let size : ℕ = recordLength terms in
           let m : j < c = omega (arith, l, counted, ap formsOf e) in
           let k = kept bytes 1000 formBuffer traceBuffer .1 (a .prob) (a .asks) in
           let same : c ≡ k .2 = ap formsOf (sym e ∙ k .3) in
           let long : length forms ≡ 32768 = ap length (ran .forms-are) ∙ k .6 ∙ length-replicate {A = ℕ} 32768 0 in
           let room : size * suc j ≤ k .2 * size = subst (λ (x : ℕ). size * suc j ≤ x) (mul-comm size (k .2)) (mul-le-mul-left size (omega (arith, m, same))) in
-          let at : getD (listedForms size c (programCall bytes .forms)) j [] ≡ take size (drop (size * j) forms) = listed-at size c (programCall bytes .forms) j m ∙ ap (λ (bs : List ℕ). take size (drop (size * j) bs)) (sym (ran .forms-are)) in
-          let there : j < length (listedForms size c (programCall bytes .forms)) = omega (arith, m, listed-length size c (programCall bytes .forms)) in
-          let w = each-at _ (listedForms size c (programCall bytes .forms)) [] (models bytes 1000 formBuffer traceBuffer (a .prob) (a .reads) v n c e) j there in
+          let at : getD (listedForms terms c (programCall bytes .forms)) j [] ≡ take size (drop (size * j) forms) = listed-at terms c (programCall bytes .forms) j m ∙ ap (λ (bs : List ℕ). take size (drop (size * j) bs)) (sym (ran .forms-are)) in
+          let there : j < length (listedForms terms c (programCall bytes .forms)) = omega (arith, m, listed-length terms c (programCall bytes .forms)) in
+          let w = each-at _ (listedForms terms c (programCall bytes .forms)) [] (models bytes 1000 formBuffer traceBuffer (a .prob) (a .reads) v n c e) j there in
           let this : Counted (a .prob) j = record {
             opens = λ tab t. record { made = t; accepted = rw (a .reads) at (ap (λ (x : Table). x .refusal) t) };
             fits = omega (arith, room, k .5, long, mul-suc size j, length-replicate {A = ℕ} 32768 0);
             long = long;
             listed-is = subst (Shaped (a .prob)) at (record { shape = w .2; valued = w .3 });
-            line-is = rw (a .reads, e) (map-at (formLine (a .prob)) (listedForms size c (programCall bytes .forms)) [] j there ∙ ap (formLine (a .prob)) at);
+            line-is = rw (a .reads, e) (map-at (formLine (a .prob)) (listedForms terms c (programCall bytes .forms)) [] j there ∙ ap (formLine (a .prob)) at);
           } in
           subst (λ (p : Problem). Counted p j) (sym (ap problemOf (a .reads))) this

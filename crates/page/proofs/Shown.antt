@@ -90,4 +90,4 @@ shows bytes prob e = go (programCall bytes .answer) refl
 
     go : (a : Answer) → programCall bytes .answer ≡ a → Each Shown (formRecords prob (programCall bytes))
     go (refusal n) q = rw q tt
-    go (ended v n c) q = rw q (Each-imp Passes Shown (listedForms (3 * termCount prob) c (programCall bytes .forms)) shown (models-pass bytes 1000 _ _ prob e v n c q))
+    go (ended v n c) q = rw q (Each-imp Passes Shown (listedForms (termCount prob) c (programCall bytes .forms)) shown (models-pass bytes 1000 _ _ prob e v n c q))

@@ -13,12 +13,12 @@ use Rattle.calculus.specs.Lists.{bit}
 use Rattle.calculus.specs.Terms.{term}
 use Rattle.calculus.specs.Problem.{Problem, constantCount, termCount, setCount}
 use Rattle.calculus.specs.Reading.{Parsed, parsed, words, signed, read}
-use Rattle.calculus.specs.Forms.{modelNumber}
+use Rattle.calculus.specs.Forms.{recordLength, rootIn, insideIn, modelNumber}
 use Rattle.calculus.proofs.Words.{words-length}
 use Rattle.calculus.proofs.Parsers.{one, counted, given, answered, then}
 use Rattle.calculus.proofs.Sections.{First}
 use Rattle.calculus.proofs.ReadValid.{first-question, read-first}
-use Rattle.calculus.proofs.ModelValues.{any-default}
+use Rattle.calculus.proofs.RecordFields.{no-longer}
 use Rattle.problem.specs.declared.Table.{Table}
 use Rattle.problem.specs.Table.{problemTable, Opened, constantOf, valuesOf}
 use Rattle.problem.proofs.Access.{opened, opened-sizes, constant-read}
@@ -80,40 +80,38 @@ module _ (bs : List ℕ) (tab : Table) (o : Opened bs tab) (r : List ℕ) (form 
   abbrev prob : Problem
   prob = problemIn bs
 
-  abbrev root : ℕ
-  root = getD r (3 * t) 0
-
   in-range : t < termCount prob
   in-range = omega (arith, l, known bs tab o .terms)
 
-  pub root-there : 3 * t + 2 < length r
-  root-there = omega (arith, form .shape .long, in-range)
+  pub term-there : (t < mostTerms) × (recordLength (suc t) ≤ length r)
+  term-there = (omega (arith, l, known bs tab o .few-terms), omega (arith, form .shape .long, no-longer (suc t) (termCount prob) in-range))
 
-  pub root-low : root ≤ t
-  root-low = form .shape .lowest t t in-range in-range refl
+  module _ (root : ℕ) (shown : root ≡ rootIn r t) where
+    pub root-low : root ≤ t
+    root-low = omega (arith, shown, form .shape .lowest t t in-range in-range refl)
 
-  pub constant-value : root < tab .constants → (x : ℕ) → x ≡ getD bs (1 + 2 * root) 0 + 256 * getD bs (1 + 2 * root + 1) 0 → signed x ≡ modelNumber prob r (term t)
-  unfolding constantOf valuesOf
-  constant-value q x e =
-      let k = known bs tab o in
-      let c = constant-read bs tab root o q .1 in
-      let j : 1 + 2 * root + 1 ≡ 2 + 2 * root = omega arith in
-      ap signed (e ∙ ap (λ (i : ℕ). getD bs (1 + 2 * root) 0 + 256 * getD bs i 0) j) ∙ c ∙ ap (λ (p : Parsed Problem). getD (valuesOf p) root (pos 0)) (k .reads)
-      ∙ sym (form .valued .constant t root in-range (omega (arith, q, k .constants)) (form .shape .own t in-range))
+    pub constant-value : root < tab .constants → (x : ℕ) → x ≡ getD bs (1 + 2 * root) 0 + 256 * getD bs (1 + 2 * root + 1) 0 → signed x ≡ modelNumber prob r (term t)
+    unfolding constantOf valuesOf
+    constant-value q x e =
+        let k = known bs tab o in
+        let c = constant-read bs tab root o q .1 in
+        let j : 1 + 2 * root + 1 ≡ 2 + 2 * root = omega arith in
+        ap signed (e ∙ ap (λ (i : ℕ). getD bs (1 + 2 * root) 0 + 256 * getD bs i 0) j) ∙ c ∙ ap (λ (p : Parsed Problem). getD (valuesOf p) root (pos 0)) (k .reads)
+        ∙ sym (form .valued .constant t root in-range (omega (arith, q, k .constants)) (ap (rootIn r) shown ∙ form .shape .own t in-range))
 
-  pub constant-there : root < tab .constants → 2 + 2 * root < length bs
-  constant-there q = constant-read bs tab root o q .0
+    pub constant-there : root < tab .constants → 2 + 2 * root < length bs
+    constant-there q = constant-read bs tab root o q .0
 
-  pub free-value : tab .constants ≤ root → signed (32001 + root) ≡ modelNumber prob r (term t)
-  free-value q =
-      let k = known bs tab o in
-      rw (lt-ltb (32001 + root) 32768 (omega (arith, form .valued .most t in-range)))
-      (sym (form .valued .free t in-range (λ i m e. omega (arith, q, k .constants, m, form .shape .lowest t i in-range (omega arith) (sym e)))))
+    pub free-value : tab .constants ≤ root → signed (32001 + root) ≡ modelNumber prob r (term t)
+    free-value q =
+        let k = known bs tab o in
+        rw (lt-ltb (32001 + root) 32768 (omega (arith, shown, form .valued .most t in-range)))
+        (ap (λ (h : ℕ). pos (32001 + h)) shown ∙ sym (form .valued .free t in-range (λ i m e. omega (arith, q, shown, k .constants, m, form .shape .lowest t i in-range (omega arith) (sym e)))))
 
 -- whether the class of root t is in a set
-module _ (r : List ℕ) (A t : ℕ) (l : 3 * t < length r) where
-  pub no-root : ¬ (getD r (3 * t) 0 ≡ t) → inside r A t ≡ false
-  no-root n = rw (any-default r (3 * t) t 0 l, ne-eqb (getD r (3 * t) 0) t n) refl
+module _ (r : List ℕ) (A t : ℕ) where
+  pub no-root : ¬ (rootIn r t ≡ t) → inside r A t ≡ false
+  no-root n = rw (ne-eqb (rootIn r t) t n) refl
 
-  pub a-root : getD r (3 * t) 0 ≡ t → inside r A t ≡ bit (getD r (3 * t + 1) 0) A
-  a-root e = rw (any-default r (3 * t) t 0 l, eq-eqb (getD r (3 * t) 0) t e) refl
+  pub a-root : rootIn r t ≡ t → inside r A t ≡ bit (insideIn r t) A
+  a-root e = rw (eq-eqb (rootIn r t) t e) refl

@@ -1,7 +1,7 @@
 -- The text of a listing (document 01, "The listing program reads a sheet").
 use mathlib.Core.Path.{_≡_}
 use mathlib.Core.List.{List, [], _∷_, _++_, map}
-use Prim.Native.Nat.{ℕ, _*_}
+use Prim.Native.Nat.{ℕ}
 use lib.ListN.{take, replicate}
 use Rattle.calculus.specs.Lists.{gather, Each}
 use Rattle.calculus.specs.Problem.{Problem, termCount, Rising, Satisfies}
@@ -56,7 +56,7 @@ formsOf (ended v steps forms) = forms
 
 -- the records that it lists
 abbrev pub formRecords : Problem → Outcome → List (List ℕ)
-formRecords prob o = listedForms (3 * termCount prob) (formsOf (o .answer)) (o .forms)
+formRecords prob o = listedForms (termCount prob) (formsOf (o .answer)) (o .forms)
 
 -- the lines of a problem's listing: the first line, then one line a form
 abbrev pub linesOf : Parsed Problem → Outcome → List (List ℕ)

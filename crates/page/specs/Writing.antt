@@ -1,15 +1,14 @@
 -- What the functions that write text are held to.
 use mathlib.Core.Path.{_≡_}
-use mathlib.Core.Bool.{Bool, _&&_, cond}
+use mathlib.Core.Bool.{Bool, cond}
 use mathlib.Core.List.{List, [], _∷_, _++_}
-use Prim.Native.Nat.{ℕ, _+_, _*_, _/_, _%_}
+use Prim.Native.Nat.{ℕ, _+_, _/_, _%_}
 use lib.ListN.{length, getD}
 use lib.Dec.{eqb}
-use Rattle.calculus.specs.Lists.{bit}
-use Rattle.calculus.specs.Terms.{term}
+use Rattle.calculus.specs.Terms.{term, setVar}
 use Rattle.calculus.specs.Problem.{Problem}
 use Rattle.calculus.specs.Reading.{Parsed, parsed, refused, read}
-use Rattle.calculus.specs.Forms.{recordRoot, modelNumber, handedModel}
+use Rattle.calculus.specs.Forms.{rootInside, modelNumber, handedModel}
 use Rattle.calculus.specs.Calls.{Verdict, FORMS, FALSE, SPENT, NOROOM, Answer, refusal, ended, answerWord}
 use Rattle.calculus.specs.Demands.{Shape, Valued}
 use Rattle.output.specs.State.{putAt}
@@ -40,7 +39,7 @@ pub record Shaped (prob : Problem) (r : List ℕ) : Type 0 where
 
 -- term number t is a root, and its class is known to be in set number A
 abbrev pub inside : List ℕ → ℕ → ℕ → Bool
-inside r A t = eqb (recordRoot r (term t) .index) t && bit (getD r (3 * t + 1) 0) A
+inside r A t = rootInside r (setVar A) (term t)
 
 -- what term t adds to the members of set number A, a comma before it unless it is the first
 unfoldable pub memberText : Problem → List ℕ → (A t start end : ℕ) → List ℕ

@@ -2,16 +2,18 @@
 use crate::text::number;
 use crate::text::say;
 use branch::has;
+use branch::inside_in;
+use branch::root_in;
 use checker::word;
 use problem::Table;
 ghost use mathlib.Core.Path.{_≡_};
 ghost use mathlib.Core.List.{_∷_, [], _++_};
-ghost use Prim.Native.Nat.{_+_, _*_, _≤_, _<_};
+ghost use Prim.Native.Nat.{suc, _+_, _≤_, _<_};
 ghost use lib.ListN.{length, getD};
 ghost use Rattle.calculus.specs.Limits.{mostSets, mostTerms};
 ghost use Rattle.calculus.specs.Terms.{term, setVar};
 ghost use Rattle.calculus.specs.Reading.{signed};
-ghost use Rattle.calculus.specs.Forms.{modelNumber, model};
+ghost use Rattle.calculus.specs.Forms.{recordLength, modelNumber, model};
 ghost use Rattle.problem.specs.Table.{Opened};
 ghost use Rattle.page.specs.Text.{braces};
 ghost use Rattle.page.specs.Listing.{formLine};
@@ -34,7 +36,7 @@ fn value(problem: &[u8], tab: Table, form: &[u8], t: usize) -> u16
     requires { ⌜ Opened (now problem) tab × Shaped (problemIn (now problem)) (now form) × (t < tab .terms) ⌝ }
     ensures { λ r. ⌜ signed r ≡ modelNumber (problemIn (now (problem .entry))) (now (form .entry)) (term t) ⌝ }
 {
-    let h = form[3 * t] as usize;
+    let h = root_in(form, t);
     if h < tab.constants as usize {
         return word(problem, 1 + 2 * h);
     }
@@ -43,13 +45,13 @@ fn value(problem: &[u8], tab: Table, form: &[u8], t: usize) -> u16
 
 // Whether the class of root t is known to be in a set.
 fn is_inside(form: &[u8], t: usize, set: u8) -> bool
-    requires { ⌜ (3 * t + 2 < length (now form)) × (t < mostTerms) × (set < mostSets) ⌝ }
+    requires { ⌜ (t < mostTerms) × (recordLength (suc t) ≤ length (now form)) × (set < mostSets) ⌝ }
     ensures { λ r. ⌜ r ≡ inside (now (form .entry)) set t ⌝ }
 {
-    if form[3 * t] as usize != t {
+    if root_in(form, t) != t {
         return false;
     }
-    has(form[3 * t + 1], set)
+    has(inside_in(form, t), set)
 }
 
 // The member of a set that term t stands for, if any, a comma before it unless it is the first.

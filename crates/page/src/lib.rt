@@ -2,6 +2,7 @@
 mod form;
 mod text;
 
+use branch::record_length;
 use form::form_line;
 use problem::read;
 use text::decimal;
@@ -68,7 +69,7 @@ pub fn line(problem: &[u8], word: u64, forms: &[u8], i: usize, text: &mut [u8]) 
         return 0;
     }
     let tab = read(problem);
-    let size = 3 * (tab.terms as usize);
+    let size = record_length(tab.terms);
     let from = size * (i - 1);
     let end = from + size;
     form_line(problem, tab, &forms[from..end], text)

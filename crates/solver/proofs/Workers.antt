@@ -15,7 +15,7 @@ use Rattle.calculus.specs.Relations.{equal, union, disjoint, subset, intersecti
 use Rattle.calculus.specs.Meaning.{Constraint, member, nonmember, same, different, relation, negation, exactly, interval}
 use Rattle.calculus.specs.Branch as calculus
 use Rattle.calculus.specs.Search.{step, next}
-use Rattle.calculus.specs.Forms.{recordOf}
+use Rattle.calculus.specs.Forms.{recordLength, recordOf}
 use Rattle.problem.specs.declared.Table.{Table}
 use Rattle.problem.specs.Table.{Opened, constraintOf, noConstraint}
 use Rattle.branch.specs.declared.Branch.{Branch}
@@ -53,13 +53,13 @@ use Rattle.solver.proofs.Taking.{Taking, Made, here-is, ruled, applying
 -- a listed form leaves the trace as it is
 listed-trace : (n : ℕ) (r : List ℕ) (c d : Counts) (F G : List ℕ) → state d G [] ≡ listed n r (state c F []) → (T : List ℕ) → state d G T ≡ listed n r (state c F T)
 unfolding listed
-listed-trace n r c d F G e T = go (leb (3 * n * c .forms + 3 * n) (length F)) refl
+listed-trace n r c d F G e T = go (leb (recordLength n * c .forms + recordLength n) (length F)) refl
   where
-    go : (t : Bool) → leb (3 * n * c .forms + 3 * n) (length F) ≡ t → state d G T ≡ listed n r (state c F T)
+    go : (t : Bool) → leb (recordLength n * c .forms + recordLength n) (length F) ≡ t → state d G T ≡ listed n r (state c F T)
     go true q = let x = rw q at e in rw q (ap (λ (s : State). state (s .counts) (s .forms) T) x)
     go false q = let x = rw q at e in rw q (ap (λ (s : State). state (s .counts) (s .forms) T) x)
 
-pub same-room : (n f g m : ℕ) → f ≡ g → 3 * n * g ≤ m → 3 * n * f ≤ m
+pub same-room : (n f g m : ℕ) → f ≡ g → recordLength n * g ≤ m → recordLength n * f ≤ m
 same-room n f g m e l = rw e l
 
 -- counts and buffers stay within their bounds
@@ -187,7 +187,7 @@ module _ {bs : List ℕ} {tab : Table} {budget : ℕ} {b : Branch} {c : Counts} 
         within = omega (arith, w .going .within);
         few = g .few;
         traced = omega (arith, w .going .traced, ap length e, put-length U (4 * d .steps) line (omega (arith, w .going .traced, w .going .within)));
-        written = subst (λ (k : ℕ). 3 * tab .terms * k ≤ length F) (sym (w .same)) (g .written);
+        written = subst (λ (k : ℕ). recordLength (tab .terms) * k ≤ length F) (sym (w .same)) (g .written);
       };
       no-terms = λ y. absurd (omega (arith, s .located .low));
     }

@@ -4,7 +4,7 @@ use native.Mathlib.Omega.{arith}
 use borrow.Author.Tests.{not-true, not-false}
 use Rattle.page.proofs.Texts.{wrote-more}
 use Rattle.page.proofs.Members.{wrote-nothing, no-member, a-member}
-use Rattle.page.proofs.Values.{known, root-there}
+use Rattle.page.proofs.Values.{term-there}
 use borrow.Author.Needs.{needs}
 use Rattle.page.proofs.form.member.Statement.{statement}
 use Rattle.page.proofs.form.member.Tie as tie
@@ -12,8 +12,8 @@ use Rattle.page.proofs.form.member.Tie as tie
 is-inside-requires : tie.Need-is-inside-requires
 is-inside-requires c κs =
     let s = c .before .before .before in
-    let l = known (s .args .problem .now) (s .args .tab) (s .pre .0) .few-terms in
-    (root-there (s .args .problem .now) (s .args .tab) (s .pre .0) (s .args .form .now) (s .pre .1) (s .args .t) (s .pre .2), omega (arith, l, s .pre .2), s .pre .3)
+    let w = term-there (s .args .problem .now) (s .args .tab) (s .pre .0) (s .args .form .now) (s .pre .1) (s .args .t) (s .pre .2) in
+    (w .0, w .1, s .pre .3)
 
 returns : tie.Need-returns
 returns c =
