@@ -4,7 +4,7 @@ use Prim.Native.Nat.{suc, _+_, _*_, _-_}
 use native.Mathlib.Omega.{arith}
 use Rattle.calculus.specs.Problem.{termCount}
 use Rattle.page.specs.Writing.{problemIn, lineAt}
-use Rattle.page.proofs.Texts.{wrote-over}
+use Rattle.text.proofs.Texts.{wrote-over}
 use Rattle.page.proofs.Values.{known}
 use Rattle.page.proofs.LineLaws.{first-line, no-line, counted-form}
 use borrow.Author.Needs.{needs}
