@@ -9,7 +9,7 @@ use Rattle.calculus.specs.Run.{run}
 use Rattle.calculus.specs.Branch.{start, assert, rootAt, inside, outside, addInside, addOutside, merge, torn}
 use Rattle.calculus.specs.Forms.{recordLength, rootIn, insideIn}
 use Rattle.calculus.specs.Calls.{Answer, refusal, ended, FORMS, FALSE, SPENT, NOROOM, asked, call}
-use Rattle.page.specs.Text.{decimal}
+use Rattle.text.specs.Text.{decimal}
 use Rattle.page.specs.Listing.{formLine, heading, listing, programCall}
 use Rattle.cases.proofs.Rows.{wordsFrom}
 

@@ -23,7 +23,8 @@ use Rattle.problem.specs.declared.Table.{Table}
 use Rattle.problem.specs.Table.{problemTable, Opened, constantOf, valuesOf}
 use Rattle.problem.proofs.Access.{opened, constant-read}
 use Rattle.handed.specs.declared.Layout.{Layout}
-use Rattle.handed.specs.Laid.{wordAt, Laid}
+use Rattle.slices.specs.Bytes.{wordAt}
+use Rattle.handed.specs.Laid.{Laid}
 use Rattle.checker.specs.Tested.{numberOf, seen}
 
 -- two valuations that agree on the first n terms and s sets
@@ -85,8 +86,7 @@ module _ (bs : List ℕ) (tab : Table) (o : Opened bs tab) (hs : List ℕ) (at :
   unfolding constantOf valuesOf
   a-constant t l =
       let q = constant-read bs tab t o l .1 in
-      let e : 1 + 2 * t + 1 ≡ 2 + 2 * t = omega arith in
-      rw e (rw p at q)
+      rw p at q
 
   seen-numbers : (t : Term) → t .index < nameable prob → numberOf bs tab hs (t .index) ≡ valueOf prob (assignmentOf g .number) (λ _. pos 0) t
   seen-numbers t l = go (decLt (t .index) (tab .constants))

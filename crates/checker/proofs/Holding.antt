@@ -34,7 +34,7 @@ use Rattle.constraints.specs.Decoded.{decoded, negationOf, Unpacked}
 use Rattle.handed.specs.declared.Layout.{Layout}
 use Rattle.handed.specs.Laid.{membersAt}
 use Rattle.checker.specs.Tested.{numberOf, seen, Readable, entriesIn, Fitting, failing}
-use Rattle.checker.proofs.Numbers.{same-number}
+use Rattle.slices.proofs.TwoBytes.{same-number}
 
 -- ---- the operands of a constraint are there
 

@@ -1,4 +1,3 @@
-pub mod Numbers
 pub mod Turns
 pub mod Testing
 pub mod Agreeing

@@ -11,7 +11,8 @@ use Rattle.calculus.specs.Check.{has}
 use Rattle.problem.specs.declared.Table.{Table}
 use Rattle.constraints.specs.declared.Relation.{Relation}
 use Rattle.constraints.specs.Decoded.{relationOf}
-use Rattle.checker.specs.Tested.{bytesAt, relatedAt, numberOf}
+use Rattle.slices.specs.Bytes.{bytesAt}
+use Rattle.checker.specs.Tested.{relatedAt, numberOf}
 
 -- ---- a relation
 

@@ -9,7 +9,7 @@ use Rattle.calculus.specs.Lists.{all}
 use Rattle.calculus.specs.Reading.{signed}
 use Rattle.calculus.specs.Check.{has}
 use Rattle.calculus.proofs.Membership.{eq-eqZ}
-use Rattle.checker.proofs.Numbers.{same-number}
+use Rattle.slices.proofs.TwoBytes.{same-number}
 
 -- a search for x: the element is the number of word w
 module _ (x : ℕ) (left : List ℤ) (y : ℤ) (rest : List ℤ) (e : left ≡ y ∷ rest) (w : ℕ) (is : signed w ≡ y) where

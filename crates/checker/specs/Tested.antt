@@ -12,15 +12,12 @@ use Rattle.calculus.specs.Lists.{all}
 use Rattle.calculus.specs.Relations.{holdsAt}
 use Rattle.calculus.specs.Reading.{words}
 use Rattle.calculus.specs.Check.{has}
+use Rattle.slices.specs.Bytes.{wordAt}
 use Rattle.problem.specs.declared.Table.{Table}
 use Rattle.constraints.specs.declared.Relation.{Relation}
 use Rattle.constraints.specs.Decoded.{relationOf}
 use Rattle.handed.specs.declared.Layout.{Layout}
-use Rattle.handed.specs.Laid.{wordAt, membersAt}
-
--- two bytes, low first, before their sign is read
-abbrev pub bytesAt : List ℕ → ℕ → ℕ
-bytesAt bs i = getD bs i 0 + 256 * getD bs (i + 1) 0
+use Rattle.handed.specs.Laid.{membersAt}
 
 -- a relation of three sets, at one whole number
 abbrev pub relatedAt : Relation → List ℕ → List ℕ → List ℕ → ℤ → Bool

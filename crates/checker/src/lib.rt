@@ -1,5 +1,4 @@
 // The assignment check: a test of each constraint, and the lowest that fails.
-use branch::Branch;
 use constraints::Constraint;
 use constraints::Relation;
 use constraints::decode;
@@ -7,6 +6,8 @@ use constraints::list;
 use handed::Layout;
 use handed::members;
 use problem::Table;
+use slices::numbers;
+use slices::word;
 use terms::Term;
 ghost use mathlib.Core.Path.{_≡_};
 ghost use mathlib.Core.List.{map};
@@ -19,17 +20,7 @@ ghost use Rattle.calculus.specs.Reading.{read, signed, words};
 ghost use Rattle.calculus.specs.Check.{has, relates?, holds?, lowest};
 ghost use Rattle.problem.specs.Table.{Opened, constraintsOf, constraintOf};
 ghost use Rattle.constraints.specs.Decoded.{relationOf};
-ghost use Rattle.checker.specs.Tested.{bytesAt, relatedAt, numberOf, seen, Readable, entriesIn, Fitting, failing};
-
-// Two bytes, low first.
-pub fn word(part: &[u8], at: usize) -> u16
-    requires { ⌜ at + 1 < length (now part) ⌝ }
-    ensures { λ r. ⌜ (r ≡ bytesAt (now (part .entry)) at) × (r < 65536) ⌝ }
-{
-    let lo = part[at] as u16;
-    let hi = part[at + 1] as u16;
-    lo + 256 * hi
-}
+ghost use Rattle.checker.specs.Tested.{relatedAt, numberOf, seen, Readable, entriesIn, Fitting, failing};
 
 // Whether a value is among the members.
 fn has(members: &[u8], x: u16) -> bool
@@ -195,8 +186,7 @@ pub fn lowest(problem: &[u8], tab: Table, assignment: &[u8], at: Layout) -> u8
     requires { ⌜ Opened (now problem) tab × Fitting tab (now assignment) at ⌝ }
     ensures { λ r. ⌜ (lowest (seen (now (problem .entry)) tab (now (assignment .entry)) at) 0 (constraintsOf (read (now (problem .entry)))) ≡ failing (tab .constraints) r) × (r ≤ tab .constraints) ⌝ }
 {
-    let b = Branch::start(0);
-    let numbers = b.parents;
+    let numbers = numbers();
     let count = tab.constraints;
     for i in 0..count {
         if !holds(problem, &numbers, tab, assignment, at, i as usize) {

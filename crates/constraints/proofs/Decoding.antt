@@ -24,7 +24,7 @@ use Rattle.calculus.proofs.ReadValid.{read-valid}
 use Rattle.calculus.proofs.ConstraintLaws.{constraints-in}
 use Rattle.terms.specs.declared.Term as terms
 use Rattle.terms.specs.declared.SetVar as sets
-use Rattle.questions.proofs.Constants.{AllBytes}
+use Rattle.slices.proofs.Parts.{AllBytes}
 use Rattle.problem.specs.declared.Table.{Table}
 use Rattle.problem.specs.Table.{problemTable, Opened, Stands, constraintsOf, noConstraint, constraintOf, kindOf, witnessOf}
 use Rattle.problem.proofs.Access.{Read, opened, Placed, placed, place-of, kind-read, witness-read, witness-is, opened-sizes}

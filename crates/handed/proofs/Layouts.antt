@@ -12,14 +12,17 @@ use lib.Dec.{eqb}
 use lib.IntN.{ℤ, pos}
 use borrow.Author.Tests.{le-leb, lt-leb, eq-eqb, ne-eqb}
 use Rattle.calculus.specs.Limits.{mostSets}
-use Rattle.calculus.specs.Reading.{Parsed, parsed, refused, _>>=_, ask, signed, words, ascending}
+use Rattle.calculus.specs.Reading.{Parsed, parsed, refused, _>>=_, ask, words, ascending}
 use Rattle.calculus.specs.Encoding.{Handed}
 use Rattle.calculus.specs.Check.{count, numbers, memberLists}
 use Rattle.calculus.proofs.Words.{words-length}
+use Rattle.slices.specs.Bytes.{wordAt, raisedWords, rises, placesFrom, filled}
+use Rattle.slices.proofs.Parts.{places-length, AllBytes, take-bytes, drop-bytes}
+use Rattle.slices.proofs.RaisedWords.{ascending-rises}
 use Rattle.questions.specs.Questions.{constantsOf}
 use Rattle.questions.proofs.Constants.{constant-at}
 use Rattle.handed.specs.declared.Layout.{Layout}
-use Rattle.handed.specs.Laid.{readHanded, startsFrom, filled, noLayout, layoutOf, wordAt, membersAt, Lays}
+use Rattle.handed.specs.Laid.{readHanded, memberBytes, noLayout, layoutOf, membersAt, Lays}
 
 -- ---- a count and numbers at a place
 
@@ -108,7 +111,7 @@ values bs n = words (take (2 * n) (drop 1 bs))
 -- the value of variable i
 value-is : (bs : List ℕ) (n i : ℕ) → 1 + 2 * n ≤ length bs → i < n → getD (values bs n) i (pos 0) ≡ wordAt bs (1 + 2 * i)
 unfolding constantsOf
-value-is bs n i l h = let e : 2 + 2 * i ≡ 1 + 2 * i + 1 = omega arith in constant-at bs n i l h ∙ ap (λ (j : ℕ). signed (getD bs (1 + 2 * i) 0 + 256 * getD bs j 0)) e
+value-is bs n i l h = constant-at bs n i l h
 
 module _ (bs : List ℕ) (n s : ℕ) where
   pub no-count : length bs ≡ 0 → readHanded n s bs ≡ refused 14
@@ -135,25 +138,22 @@ module _ (bs : List ℕ) (n s : ℕ) where
 abbrev Stands : List ℕ → Layout → List (List ℤ) → ℕ → Type 0
 Stands bs r xss A = (getD (r .starts) A 0 + 2 * getD (r .counts) A 0 ≤ length bs) × (getD xss A [] ≡ words (membersAt bs r A))
 
--- where what follows these sets begins
+-- where the members of a next set begin
 abbrev after : ℕ → List (List ℤ) → ℕ
 after at [] = at
-after at (xs ∷ xss) = after (at + 1 + 2 * length xs) xss
+after at (xs ∷ xss) = after (at + memberBytes xs) xss
 
-after-more : (at : ℕ) (xss : List (List ℤ)) (ys : List ℤ) → after at (xss ++ (ys ∷ [])) ≡ after at xss + 1 + 2 * length ys
+after-more : (at : ℕ) (xss : List (List ℤ)) (ys : List ℤ) → after at (xss ++ (ys ∷ [])) ≡ after at xss + memberBytes ys
 after-more at [] ys = refl
-after-more at (xs ∷ xss) ys = after-more (at + 1 + 2 * length xs) xss ys
+after-more at (xs ∷ xss) ys = after-more (at + memberBytes xs) xss ys
 
-starts-more : (at : ℕ) (xss : List (List ℤ)) (ys : List ℤ) → startsFrom at (xss ++ (ys ∷ [])) ≡ startsFrom at xss ++ ((after at xss + 1) ∷ [])
+starts-more : (at : ℕ) (xss : List (List ℤ)) (ys : List ℤ) → placesFrom memberBytes at (xss ++ (ys ∷ [])) ≡ placesFrom memberBytes at xss ++ (after at xss ∷ [])
+unfolding placesFrom
 starts-more at [] ys = refl
-starts-more at (xs ∷ xss) ys = ap (λ (l : List ℕ). (at + 1) ∷ l) (starts-more (at + 1 + 2 * length xs) xss ys)
-
-starts-length : (at : ℕ) (xss : List (List ℤ)) → length (startsFrom at xss) ≡ length xss
-starts-length at [] = refl
-starts-length at (xs ∷ xss) = ap suc (starts-length (at + 1 + 2 * length xs) xss)
+starts-more at (xs ∷ xss) ys = ap (λ (l : List ℕ). at ∷ l) (starts-more (at + memberBytes xs) xss ys)
 
 -- the next place that is filled
-fill : (xs : List ℕ) (k v : ℕ) → length xs ≡ k → k < mostSets → set (filled xs) k v ≡ filled (xs ++ (v ∷ []))
+fill : (xs : List ℕ) (k v : ℕ) → length xs ≡ k → k < mostSets → set (filled mostSets xs) k v ≡ filled mostSets (xs ++ (v ∷ []))
 fill xs k v e l =
     let z : mostSets - length xs ≡ suc (mostSets - length (xs ++ (v ∷ []))) = omega (arith, length-append xs (v ∷ [])) in
     ap (λ (m : ℕ). set (xs ++ replicate m 0) k v) z
@@ -164,9 +164,9 @@ fill xs k v e l =
 pub record SoFar (bs : List ℕ) (n s : ℕ) (r : Layout) (k at : ℕ) : Type 0 where
   pub sets : List (List ℤ)
   pub many : length sets ≡ k
-  pub place : at ≡ after (1 + 2 * n) sets
-  pub starts-are : r .starts ≡ filled (startsFrom (1 + 2 * n) sets)
-  pub counts-are : r .counts ≡ filled (map length sets)
+  pub place : at + 1 ≡ after (2 + 2 * n) sets
+  pub starts-are : r .starts ≡ filled mostSets (placesFrom memberBytes (2 + 2 * n) sets)
+  pub counts-are : r .counts ≡ filled mostSets (map length sets)
   pub stand : (A : ℕ) → A < k → Stands bs r sets A
   pub left : readHanded n s bs ≡ readOn (s - k) (drop at bs) (values bs n) sets
   pub long : (length (r .starts) ≡ mostSets) × (length (r .counts) ≡ mostSets)
@@ -185,8 +185,9 @@ unfolding layoutOf
 refuses bs n s r e h = rw e record { determined = rw h refl; accepted = λ q. absurd (false≢true q); declined = λ _. h }
 
 -- before the first set
-pub start : (bs : List ℕ) (n s : ℕ) (r : Layout) → 0 < length bs → getD bs 0 0 ≡ n → 1 + 2 * n ≤ length bs → r .starts ≡ filled [] → r .counts ≡ filled [] → SoFar bs n s r 0 (1 + 2 * n)
-start bs n s r l e h p q = record { sets = []; many = refl; place = refl; starts-are = p; counts-are = q; stand = λ A z. absurd (omega arith); left = values-read bs n s l e h; long = (ap length p, ap length q) }
+pub start : (bs : List ℕ) (n s : ℕ) (r : Layout) → 0 < length bs → getD bs 0 0 ≡ n → 1 + 2 * n ≤ length bs → r .starts ≡ filled mostSets [] → r .counts ≡ filled mostSets [] → SoFar bs n s r 0 (1 + 2 * n)
+unfolding placesFrom
+start bs n s r l e h p q = record { sets = []; many = refl; place = omega arith; starts-are = p; counts-are = q; stand = λ A z. absurd (omega arith); left = values-read bs n s l e h; long = (ap length p, ap length q) }
 
 module _ {bs : List ℕ} {n s : ℕ} {starts counts : List ℕ} {k at : ℕ} (so : SoFar bs n s (layout starts counts) k at) where
   -- a set is left: it is not there, or not whole, or not ascending, or it is read
@@ -197,12 +198,15 @@ module _ {bs : List ℕ} {n s : ℕ} {starts counts : List ℕ} {k at : ℕ} (so
     pub short-set : at < length bs → length bs - (at + 1) < 2 * getD bs at 0 → readHanded n s bs ≡ refused 14
     short-set h g = so .left ∙ stop-short bs at s k l (values bs n) (so .sets) h (omega arith)
 
-    module _ (h : at < length bs) (g : 2 * getD bs at 0 ≤ length bs - (at + 1)) (t : Bool) (e : t ≡ ascending (words (take (at + 1 + 2 * getD bs at 0 - (at + 1)) (drop (at + 1) bs)))) where
+    module _ (h : at < length bs) (g : 2 * getD bs at 0 ≤ length bs - (at + 1)) (known : AllBytes bs) (t : Bool) (e : t ≡ rises 0 65535 (raisedWords (take (at + 1 + 2 * getD bs at 0 - (at + 1)) (drop (at + 1) bs)))) where
       abbrev size : ℕ
       size = getD bs at 0
 
       order : ascending (words (take (2 * size) (drop (at + 1) bs))) ≡ t
-      order = ap (λ (x : List ℕ). ascending (words x)) (sym (part-is bs (at + 1) size)) ∙ sym e
+      order =
+          ascending-rises (take (2 * size) (drop (at + 1) bs)) (take-bytes (2 * size) (drop (at + 1) bs) (drop-bytes (at + 1) bs known))
+          ∙ ap (λ (x : List ℕ). rises 0 65535 (raisedWords x)) (sym (part-is bs (at + 1) size))
+          ∙ sym e
 
       pub unordered-set : t ≡ false → readHanded n s bs ≡ refused 14
       unordered-set f = so .left ∙ stop-order bs at s k l (values bs n) (so .sets) h (omega arith) (order ∙ f)
@@ -220,17 +224,17 @@ module _ {bs : List ℕ} {n s : ℕ} {starts counts : List ℕ} {k at : ℕ} (so
       set-read b f = record {
         sets = so .sets ++ (here ∷ []);
         many = omega (arith, length-append (so .sets) (here ∷ []), so .many);
-        place = omega (arith, so .place, after-more (1 + 2 * n) (so .sets) here, here-length);
+        place = omega (arith, so .place, after-more (2 + 2 * n) (so .sets) here, here-length);
         starts-are =
             ap (λ (x : List ℕ). set x k (at + 1)) (so .starts-are)
-            ∙ fill (startsFrom (1 + 2 * n) (so .sets)) k (at + 1) (starts-length (1 + 2 * n) (so .sets) ∙ so .many) (omega arith)
-            ∙ ap (λ (x : ℕ). filled (startsFrom (1 + 2 * n) (so .sets) ++ ((x + 1) ∷ []))) (so .place)
-            ∙ ap filled (sym (starts-more (1 + 2 * n) (so .sets) here));
+            ∙ fill (placesFrom memberBytes (2 + 2 * n) (so .sets)) k (at + 1) (places-length memberBytes (2 + 2 * n) (so .sets) ∙ so .many) (omega arith)
+            ∙ ap (λ (x : ℕ). filled mostSets (placesFrom memberBytes (2 + 2 * n) (so .sets) ++ (x ∷ []))) (so .place)
+            ∙ ap (filled mostSets) (sym (starts-more (2 + 2 * n) (so .sets) here));
         counts-are =
             ap (λ (x : List ℕ). set x k size) (so .counts-are)
             ∙ fill (map length (so .sets)) k size (length-map (so .sets) length ∙ so .many) (omega arith)
-            ∙ ap (λ (x : ℕ). filled (map length (so .sets) ++ (x ∷ []))) (sym here-length)
-            ∙ ap filled (sym (map-append length (so .sets) (here ∷ [])));
+            ∙ ap (λ (x : ℕ). filled mostSets (map length (so .sets) ++ (x ∷ []))) (sym here-length)
+            ∙ ap (filled mostSets) (sym (map-append length (so .sets) (here ∷ [])));
         stand = λ A z. stands A z (ℕ-discrete A k);
         left = so .left ∙ go-on bs at s k l (values bs n) (so .sets) h (omega arith) (order ∙ f);
         long = (omega (arith, length-set starts k (at + 1), so .long .0), omega (arith, length-set counts k size, so .long .1));

@@ -1,2 +1,1 @@
-pub mod RaisedWords
 pub mod Layouts

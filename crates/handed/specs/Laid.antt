@@ -1,15 +1,16 @@
 -- Where the parts of an assignment stand that was handed in.
 use mathlib.Core.Path.{_≡_}
 use mathlib.Core.Bool.{true, false}
-use mathlib.Core.List.{List, [], _∷_, _++_, map}
-use Prim.Native.Nat.{ℕ, _+_, _*_, _-_, _<_, _≤_}
+use mathlib.Core.List.{List, [], map}
+use Prim.Native.Nat.{ℕ, _+_, _*_, _<_, _≤_}
 use lib.ListN.{length, getD, take, drop, replicate}
 use lib.Dec.{eqb}
 use lib.IntN.{ℤ, pos}
 use Rattle.calculus.specs.Limits.{mostSets}
-use Rattle.calculus.specs.Reading.{Parsed, parsed, refused, _>>=_, ask, signed, words}
+use Rattle.calculus.specs.Reading.{Parsed, parsed, refused, _>>=_, ask, words}
 use Rattle.calculus.specs.Encoding.{Handed}
 use Rattle.calculus.specs.Check.{count, numbers, memberLists}
+use Rattle.slices.specs.Bytes.{wordAt, placesFrom, filled}
 use Rattle.handed.specs.declared.Layout.{Layout}
 
 -- question 14, for n variables and s sets
@@ -22,14 +23,9 @@ readHanded n s bs = do
   _ ← ask 14 (eqb (length r₃) 0)
   parsed (record { numbers = xs; sets = xss })
 
--- where the members of each set begin, the first set's count byte at a place
-abbrev pub startsFrom : ℕ → List (List ℤ) → List ℕ
-startsFrom at [] = []
-startsFrom at (xs ∷ xss) = (at + 1) ∷ startsFrom (at + 1 + 2 * length xs) xss
-
--- a list of mostSets, filled up with 0
-abbrev pub filled : List ℕ → List ℕ
-filled xs = xs ++ replicate (mostSets - length xs) 0
+-- a set's members take two bytes each, and the next set's count byte follows
+abbrev pub memberBytes : List ℤ → ℕ
+memberBytes xs = 2 * length xs + 1
 
 -- the layout of what is refused: 0 in all
 abbrev pub noLayout : Layout
@@ -37,12 +33,8 @@ noLayout = record { ok = false; starts = replicate mostSets 0; counts = replicat
 
 -- the layout of an assignment to n variables
 unfoldable pub layoutOf : ℕ → Parsed Handed → Layout
-layoutOf n (parsed g) = record { ok = true; starts = filled (startsFrom (1 + 2 * n) (g .sets)); counts = filled (map length (g .sets)) }
+layoutOf n (parsed g) = record { ok = true; starts = filled mostSets (placesFrom memberBytes (2 + 2 * n) (g .sets)); counts = filled mostSets (map length (g .sets)) }
 layoutOf n (refused _) = noLayout
-
--- the number at two bytes
-abbrev pub wordAt : List ℕ → ℕ → ℤ
-wordAt bs i = signed (getD bs i 0 + 256 * getD bs (i + 1) 0)
 
 -- the members of set number A: a part of the bytes
 abbrev pub membersAt : List ℕ → Layout → ℕ → List ℕ

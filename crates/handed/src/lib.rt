@@ -1,13 +1,11 @@
 // An assignment that was handed in: question 14, and where its parts stand. Nothing is copied.
-use questions::raised;
+use slices::rising;
 use terms::MOST_SETS;
 use terms::SetVar;
 ghost use mathlib.Core.Path.{_≡_};
 ghost use Prim.Native.Nat.{_+_, _*_, _≤_, _<_};
 ghost use lib.ListN.{length, getD};
 ghost use Rattle.calculus.specs.Limits.{mostSets};
-ghost use Rattle.calculus.specs.Reading.{words, ascending};
-ghost use Rattle.questions.specs.Questions.{raisedAt};
 ghost use Rattle.handed.specs.Laid.{noLayout, Lays, membersAt};
 
 // Whether the bytes are an assignment; and of each set where its members begin, and how many there are. Both lists are 0 beyond the sets, and all 0 if the bytes are no assignment.
@@ -15,22 +13,6 @@ pub struct Layout {
     pub ok: bool,
     pub starts: [usize; MOST_SETS],
     pub counts: [usize; MOST_SETS],
-}
-
-// Whether two-byte values are strictly ascending.
-fn rising(part: &[u8]) -> bool
-    ensures { λ r. ⌜ r ≡ ascending (words (now (part .entry))) ⌝ }
-{
-    let n = part.len() / 2;
-    let mut least = 0;
-    for i in 0..n {
-        let value = raised(part, 2 * i);
-        if value < least {
-            return false;
-        }
-        least = value + 1;
-    }
-    true
 }
 
 // The bytes are no assignment.
@@ -72,7 +54,7 @@ pub fn lay_out(assignment: &[u8], variables: u8, sets: u8) -> Layout
             return no_layout();
         }
         let end = from + 2 * count;
-        if !rising(&assignment[from..end]) {
+        if !rising(&assignment[from..end], 0, 65535) {
             return no_layout();
         }
         starts[k] = from;

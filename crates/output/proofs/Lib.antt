@@ -1,4 +1,3 @@
-pub mod Buffers
 pub mod Listing
 pub mod Playing
 pub mod Tallied

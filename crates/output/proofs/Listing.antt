@@ -1,14 +1,22 @@
 -- A form that is listed, or has no room; a step that is noted, or has no budget.
 use mathlib.Core.Path.{_≡_, refl}
-use mathlib.Core.List.{List}
+use mathlib.Core.List.{List, _++_}
 use Prim.Native.Nat.{ℕ, zero, suc, _+_, _*_, _<_, _≤_}
 use native.Mathlib.Omega.{arith}
 use native.Mathlib.Nat.{mul-le-mul}
-use lib.ListN.{length}
+use lib.ListN.{length, take}
+use lib.Seq.{take-at}
 use borrow.Author.Tests.{le-leb, lt-leb, eq-eqb, ne-eqb}
 use Rattle.calculus.specs.Limits.{termBytes}
-use Rattle.calculus.specs.Forms.{recordLength}
-use Rattle.output.specs.State.{State, putAt, counted, state, listed, noted}
+use Rattle.calculus.specs.Branch.{Branch}
+use Rattle.calculus.specs.Forms.{recordLength, recordOf}
+use Rattle.calculus.proofs.Records.{record-length}
+use Rattle.slices.specs.Bytes.{putAt}
+use Rattle.output.specs.State.{State, counted, state, listed, noted}
+
+-- the first bytes of a record with more after it are the record
+pub record-front : (b : Branch) (n size : ℕ) (r more : List ℕ) → size ≡ recordLength n → r ≡ recordOf n b ++ more → take size r ≡ recordOf n b
+record-front b n size r more l e = rw e (take-at (recordOf n b) more size (record-length b n ∙ sym l))
 
 module _ (n : ℕ) (r : List ℕ) (s : State) where
   -- there is room

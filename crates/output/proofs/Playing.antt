@@ -13,7 +13,7 @@ use Rattle.calculus.specs.Run.{Event, formed, stepped}
 use Rattle.calculus.specs.Forms.{recordLength, recordOf}
 use Rattle.calculus.proofs.RecordFields.{record-length}
 use Rattle.output.specs.State.{State, listed, noted, event, play, Fine}
-use Rattle.output.proofs.Buffers.{put-length}
+use Rattle.slices.proofs.Buffers.{put-length}
 use Rattle.output.proofs.Listing.{listed-there, listed-not, noted-there, noted-not}
 
 -- the record of a step is four bytes

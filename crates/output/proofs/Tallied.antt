@@ -20,8 +20,9 @@ use Rattle.calculus.specs.Run.{Event, formed, stepped, log, End, DONE, SPENT, N
 use Rattle.calculus.proofs.Bools.{Each-all}
 use Rattle.calculus.proofs.LogEvents.{log-each}
 use Rattle.calculus.proofs.RecordFields.{record-length}
-use Rattle.output.specs.State.{State, putAt, counted, state, stopNumber, listed, play, begun, left}
-use Rattle.output.proofs.Buffers.{put-length, put-nothing, put-after, put-first}
+use Rattle.output.specs.State.{State, counted, state, stopNumber, listed, play, begun, left}
+use Rattle.slices.specs.Bytes.{putAt}
+use Rattle.slices.proofs.Buffers.{put-length, put-nothing, put-after, put-first}
 use Rattle.output.proofs.Listing.{listed-there, listed-not, noted-there, noted-not}
 use Rattle.output.proofs.Playing.{Shaped, play-stopped}
 

@@ -1,18 +1,15 @@
 -- The state of a run: its counters and both buffers, and what each event makes of it.
 use mathlib.Core.Bool.{Bool, true, false, cond}
-use mathlib.Core.List.{List, [], _∷_, _++_}
-use Prim.Native.Nat.{ℕ, zero, suc, _+_, _*_, _≤_}
-use lib.ListN.{length, take, drop}
+use mathlib.Core.List.{List, [], _∷_}
+use Prim.Native.Nat.{ℕ, suc, _+_, _*_, _≤_}
+use lib.ListN.{length}
 use lib.Dec.{eqb, leb}
 use Rattle.calculus.specs.Limits.{mostSteps}
 use Rattle.calculus.specs.Forms.{recordLength, recordOf}
 use Rattle.calculus.specs.Run.{Event, formed, stepped, End, DONE, SPENT, NOROOM, Tally}
 use Rattle.calculus.specs.Calls.{over}
+use Rattle.slices.specs.Bytes.{putAt}
 use Rattle.output.specs.declared.Counts.{Counts}
-
--- a buffer with bytes written at a place, and otherwise as it was
-abbrev pub putAt : List ℕ → ℕ → List ℕ → List ℕ
-putAt buffer at bytes = take at buffer ++ (bytes ++ drop (at + length bytes) buffer)
 
 -- with the form buffer and the trace buffer; stop is 0 while the run goes on
 pub record State : Type 0 where

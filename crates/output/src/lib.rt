@@ -1,6 +1,7 @@
 // What a run writes: records of solved forms and of steps, and the counts.
 use branch::Branch;
 use branch::record_length;
+use slices::put;
 ghost use mathlib.Core.Path.{_≡_};
 ghost use mathlib.Core.List.{[], _∷_};
 ghost use Prim.Native.Nat.{_+_, _*_, _≤_, _<_};
@@ -8,24 +9,15 @@ ghost use lib.ListN.{length};
 ghost use Rattle.calculus.specs.Limits.{mostTerms};
 ghost use Rattle.calculus.specs.Forms.{recordOf, recordLength};
 ghost use Rattle.calculus.specs.Invariants.{Falls};
+ghost use Rattle.slices.specs.Bytes.{putAt};
 ghost use Rattle.branch.specs.Held.{held};
-ghost use Rattle.output.specs.State.{putAt, state, listed, noted, Fine};
+ghost use Rattle.output.specs.State.{state, listed, noted, Fine};
 
 // Steps taken and forms written; and why the run stopped: 0 it has not, 1 the budget is spent, 2 there is no room.
 pub struct Counts {
     pub steps: usize,
     pub forms: usize,
     pub stop: u8,
-}
-
-// Writes bytes at a place of a buffer.
-pub fn put(bytes: &[u8], buffer: &mut [u8], at: usize)
-    requires { ⌜ at + length (now bytes) ≤ length (now buffer) ⌝ }
-    ensures { λ _. ⌜ now (buffer .exit) ≡ putAt (now (buffer .entry)) at (now (bytes .entry)) ⌝ }
-{
-    for k in 0..bytes.len() {
-        buffer[at + k] = bytes[k];
-    }
 }
 
 // Lists a solved form of the first terms, if its record fits what is left of the form buffer.

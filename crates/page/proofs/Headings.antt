@@ -8,10 +8,10 @@ use borrow.Author.Tests.{eq-eqb, ne-eqb}
 use Rattle.calculus.specs.Calls.{Verdict, FORMS, FALSE, SPENT, NOROOM, Answer, refusal, ended, answerWord, verdictNumber}
 use Rattle.calculus.proofs.AnswerLaws.{answers}
 use Rattle.capi.proofs.Contracted.{some-number}
-use Rattle.page.specs.Text.{decimal}
+use Rattle.text.specs.Text.{decimal}
 use Rattle.page.specs.Listing.{heading, verdictName, refusedName, stepsName, programCall}
 use Rattle.page.specs.Writing.{verdictAt, answerIn}
-use Rattle.page.proofs.Texts.{decimal-length}
+use Rattle.text.proofs.Texts.{decimal-length}
 
 pub heading-refused : (word : ℕ) → word % 256 ≡ 0 → heading (answerIn word) ≡ refusedName ++ (decimal (word / 256 % 256) ++ (10 ∷ []))
 unfolding answerIn

@@ -16,12 +16,12 @@ use Rattle.calculus.specs.Forms.{modelNumber, model, handedModel}
 use Rattle.calculus.proofs.ModelsPass.{long, at}
 use Rattle.problem.specs.declared.Table.{Table}
 use Rattle.problem.specs.Table.{Opened}
-use Rattle.page.specs.Text.{number, separated, braces, assigned}
+use Rattle.text.specs.Text.{number, separated, braces, assigned, led, Wrote}
 use Rattle.page.specs.Listing.{items, formLine}
-use Rattle.page.specs.Writing.{Wrote, problemIn, led, itemAt}
-use Rattle.page.proofs.Texts.{wrote-more}
+use Rattle.page.specs.Writing.{problemIn, itemAt}
+use Rattle.text.proofs.Texts.{wrote-more}
+use Rattle.text.proofs.Separating.{separated-more}
 use Rattle.page.proofs.Values.{Known, known, letters}
-use Rattle.page.proofs.Members.{separated-more}
 
 -- ---- letters with their values
 

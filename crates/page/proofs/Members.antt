@@ -1,58 +1,21 @@
--- Texts with a separator between, and the members of a set one by one.
+-- The members of a set, one by one.
 use mathlib.Core.Path.{_≡_, refl, sym, ap, _∙_, subst}
 use mathlib.Core.Bool.{Bool, true, false, cond}
-use mathlib.Core.List.{List, [], _∷_, _++_, map, append-assoc, append-nil, map-append}
-use Prim.Native.Nat.{ℕ, zero, suc, _+_, _/_, _%_, _≤_}
+use mathlib.Core.List.{List, [], _∷_, _++_, map, append-nil, map-append}
+use Prim.Native.Nat.{ℕ, zero, suc, _+_, _≤_}
 use native.Mathlib.Omega.{arith}
 use native.Mathlib.Nat.{add-zero, zero-add}
 use native.Mathlib.Numerals.{add-one}
-use lib.ListN.{length, length-append}
-use lib.Dec.{ltb}
-use lib.IntN.{ℤ, pos, negsuc}
-use borrow.Author.Tests.{eq-eqb, ne-eqb}
-use Rattle.calculus.specs.Lists.{upFrom, keep, gather, Each}
+use lib.ListN.{length}
+use lib.IntN.{ℤ}
+use Rattle.calculus.specs.Lists.{upFrom, keep}
 use Rattle.calculus.specs.Terms.{Term, term, setVar, termsFrom}
 use Rattle.calculus.specs.Problem.{Problem, termCount}
 use Rattle.calculus.specs.Forms.{modelNumber, model}
-use Rattle.output.proofs.Buffers.{put-nothing}
-use Rattle.page.specs.Text.{digits, decimal, number, separated, braces}
-use Rattle.page.specs.Writing.{Wrote, led, inside, memberText}
-use Rattle.page.proofs.Texts.{wrote-more}
-
-pub wrote-nothing : (d : List ℕ) (at : ℕ) → Wrote d at [] at d
-wrote-nothing d at = record { after-is = sym (put-nothing d at); ends = sym (add-zero at) }
-
--- ---- separators
-
-pub led-none : (c start end : ℕ) → end ≡ start → led c start end ≡ []
-unfolding led
-led-none c start end e = rw (eq-eqb end start e) refl
-
-pub led-one : (c start end : ℕ) → ¬ (end ≡ start) → led c start end ≡ c ∷ []
-unfolding led
-led-one c start end n = rw (ne-eqb end start n) refl
-
-gather-more : (c : ℕ) (xs : List (List ℕ)) (y : List ℕ) → gather (λ (x : List ℕ). c ∷ x) (xs ++ (y ∷ [])) ≡ gather (λ (x : List ℕ). c ∷ x) xs ++ (c ∷ y)
-gather-more c [] y = append-nil (c ∷ y)
-gather-more c (x ∷ xs) y = ap (λ (l : List ℕ). (c ∷ x) ++ l) (gather-more c xs y) ∙ sym (append-assoc (c ∷ x) (gather (λ (x : List ℕ). c ∷ x) xs) (c ∷ y))
-
--- one more text: a separator first, unless nothing was written
-pub separated-more : (c start : ℕ) (xs : List (List ℕ)) (y : List ℕ) → Each (λ x. 1 ≤ length x) xs → separated c (xs ++ (y ∷ [])) ≡ separated c xs ++ (led c start (start + length (separated c xs)) ++ y)
-separated-more c start [] y e = rw (led-none c start (start + 0) (add-zero start)) (append-nil y)
-separated-more c start (x ∷ xs) y e =
-    let s : List ℕ = gather (λ (x : List ℕ). c ∷ x) xs in
-    rw (led-one c start (start + length (x ++ s)) (λ q. omega (arith, q, length-append x s, e .0)))
-    (ap (λ (l : List ℕ). x ++ l) (gather-more c xs y) ∙ sym (append-assoc x s (c ∷ y)))
-
--- ---- the members of a set
-
-pub decimal-long : (n : ℕ) → 1 ≤ length (decimal n)
-unfolding decimal
-decimal-long n = omega (arith, length-append (cond (ltb n 10) [] (digits n (n / 10))) ((48 + n % 10) ∷ []))
-
-pub number-long : (z : ℤ) → 1 ≤ length (number z)
-number-long (pos n) = decimal-long n
-number-long (negsuc n) = omega arith
+use Rattle.text.specs.Text.{number, separated, braces, led, Wrote}
+use Rattle.text.proofs.Texts.{wrote-more}
+use Rattle.text.proofs.Separating.{separated-more, all-long}
+use Rattle.page.specs.Writing.{inside, memberText}
 
 up-more : (s n : ℕ) → upFrom s (suc n) ≡ upFrom s n ++ ((s + n) ∷ [])
 up-more s zero = rw (add-zero s) refl
@@ -102,10 +65,6 @@ module _ (prob : Problem) (r : List ℕ) (A : ℕ) where
       go : (b : Bool) → firstMembers t ++ map (modelNumber prob r) (cond b (term t ∷ []) []) ≡ firstMembers t ++ cond b (modelNumber prob r (term t) ∷ []) []
       go true = refl
       go false = refl
-
-  all-long : (zs : List ℤ) → Each (λ x. 1 ≤ length x) (map number zs)
-  all-long [] = tt
-  all-long (z ∷ zs) = (number-long z, all-long zs)
 
   pub members-more : (t start : ℕ) → membersText (suc t) ≡ membersText t ++ memberText prob r A t start (start + length (membersText t))
   unfolding membersText memberText

@@ -1,10 +1,10 @@
--- What a listing shows: decimal digits read back as their number; no more than 4,097 bytes matter; members ascend, and each line's model satisfies the problem.
+-- What a listing shows: no more than 4,097 bytes matter; members ascend, and each line's model satisfies the problem.
 use mathlib.Core.Path.{_≡_, refl, sym, ap, _∙_}
-use mathlib.Core.List.{List, [], _∷_, _++_}
-use Prim.Native.Nat.{ℕ, zero, suc, _+_, _*_, _-_, _/_, _%_, _<_, _≤_}
+use mathlib.Core.List.{List, [], _∷_}
+use Prim.Native.Nat.{ℕ, _*_, _<_}
 use native.Mathlib.Omega.{arith}
 use native.Mathlib.Decide.{decLt}
-use lib.ListN.{length, getD, take, replicate, length-take, List·getD-append}
+use lib.ListN.{length, take, replicate, length-take}
 use lib.Seq.{take-all}
 use Rattle.calculus.specs.Lists.{Each}
 use Rattle.calculus.specs.Problem.{termCount, Rising, Satisfies}
@@ -13,48 +13,13 @@ use Rattle.calculus.specs.Encoding.{Bytes, Handed, encodeHanded, WrittenAssignm
 use Rattle.calculus.specs.Forms.{listedForms, handedModel}
 use Rattle.calculus.specs.Check.{assignmentOf}
 use Rattle.calculus.specs.Calls.{Answer, refusal, ended, HOLDS, check}
-use Rattle.calculus.proofs.Bools.{Each-imp, Each-app}
+use Rattle.calculus.proofs.Bools.{Each-imp}
 use Rattle.calculus.proofs.CallLaws.{asks, kept}
 use Rattle.calculus.proofs.Refuses.{refuses}
 use Rattle.calculus.proofs.ReadAssignment.{reads-assignment}
 use Rattle.calculus.proofs.Checking.{checks}
 use Rattle.calculus.proofs.ModelsPass.{models-pass}
-use Rattle.page.specs.Text.{decimal, worth, ReadsBack}
 use Rattle.page.specs.Listing.{heading, programCall, formRecords, listing, Cut, Shows}
-use Rattle.page.proofs.Members.{decimal-long}
-use Rattle.page.proofs.Texts.{decimal-one, decimal-more}
-
--- ---- decimal digits
-
-worth-more : (n : ℕ) (ds : List ℕ) (d : ℕ) → worth n (ds ++ (d ∷ [])) ≡ 10 * worth n ds + (d - 48)
-worth-more n [] d = refl
-worth-more n (e ∷ ds) d = worth-more (10 * n + (e - 48)) ds d
-
-back : (k n : ℕ) → n < k → (worth 0 (decimal n) ≡ n) × Each (λ d. (48 ≤ d) × (d ≤ 57)) (decimal n) × (1 ≤ n → ¬ (getD (decimal n) 0 48 ≡ 48))
-back zero n l = absurd (omega arith)
-back (suc k) n l = go (decLt n 10) (back k (n / 10))
-  where
-    Back : ℕ → Type 0
-    Back n = (worth 0 (decimal n) ≡ n) × Each (λ d. (48 ≤ d) × (d ≤ 57)) (decimal n) × (1 ≤ n → ¬ (getD (decimal n) 0 48 ≡ 48))
-
-    go : Dec (n < 10) → (n / 10 < k → Back (n / 10)) → Back n
-    go (yes q) h = rw (decimal-one n q) (omega arith, ((omega arith, omega arith), tt), λ p e. omega (arith, p, e))
-    go (no q) h =
-        let b = h (omega arith) in
-        rw (decimal-more n (omega arith)) (
-          worth-more 0 (decimal (n / 10)) (48 + n % 10) ∙ omega (arith, b .0),
-          Each-app (λ (d : ℕ). (48 ≤ d) × (d ≤ 57)) (decimal (n / 10)) ((48 + n % 10) ∷ []) (b .1) ((omega arith, omega arith), tt),
-          λ p e. b .2 (omega arith) (sym (List·getD-append (decimal (n / 10)) ((48 + n % 10) ∷ []) 48 0 (decimal-long (n / 10))) ∙ e),
-        )
-
-pub reads-back : ReadsBack
-reads-back n = let b = back (suc n) n (omega arith) in (b .0, b .1, λ e. only n e (b .2))
-  where
-    only : (n : ℕ) → getD (decimal n) 0 48 ≡ 48 → (1 ≤ n → ¬ (getD (decimal n) 0 48 ≡ 48)) → decimal n ≡ 48 ∷ []
-    only zero e h = decimal-one 0 (omega arith)
-    only (suc n) e h = absurd (h (omega arith) e)
-
--- ---- lines
 
 -- the lines of a problem that is refused
 refused-lines : (bytes : List ℕ) (n : ℕ) → read bytes ≡ refused n → listing bytes ≡ heading (refusal n) ∷ []

@@ -19,6 +19,7 @@ use Rattle.calculus.proofs.Parsers.{one, counted, given, answered, then}
 use Rattle.calculus.proofs.Sections.{First}
 use Rattle.calculus.proofs.ReadValid.{first-question, read-first}
 use Rattle.calculus.proofs.RecordFields.{no-longer}
+use Rattle.slices.specs.Bytes.{bytesAt}
 use Rattle.problem.specs.declared.Table.{Table}
 use Rattle.problem.specs.Table.{problemTable, Opened, constantOf, valuesOf}
 use Rattle.problem.proofs.Access.{opened, opened-sizes, constant-read}
@@ -90,13 +91,12 @@ module _ (bs : List ℕ) (tab : Table) (o : Opened bs tab) (r : List ℕ) (form 
     pub root-low : root ≤ t
     root-low = omega (arith, shown, form .shape .lowest t t in-range in-range refl)
 
-    pub constant-value : root < tab .constants → (x : ℕ) → x ≡ getD bs (1 + 2 * root) 0 + 256 * getD bs (1 + 2 * root + 1) 0 → signed x ≡ modelNumber prob r (term t)
+    pub constant-value : root < tab .constants → (x : ℕ) → x ≡ bytesAt bs (1 + 2 * root) → signed x ≡ modelNumber prob r (term t)
     unfolding constantOf valuesOf
     constant-value q x e =
         let k = known bs tab o in
         let c = constant-read bs tab root o q .1 in
-        let j : 1 + 2 * root + 1 ≡ 2 + 2 * root = omega arith in
-        ap signed (e ∙ ap (λ (i : ℕ). getD bs (1 + 2 * root) 0 + 256 * getD bs i 0) j) ∙ c ∙ ap (λ (p : Parsed Problem). getD (valuesOf p) root (pos 0)) (k .reads)
+        ap signed e ∙ c ∙ ap (λ (p : Parsed Problem). getD (valuesOf p) root (pos 0)) (k .reads)
         ∙ sym (form .valued .constant t root in-range (omega (arith, q, k .constants)) (ap (rootIn r) shown ∙ form .shape .own t in-range))
 
     pub constant-there : root < tab .constants → 2 + 2 * root < length bs

@@ -10,7 +10,7 @@ use Rattle.calculus.specs.Encoding.{Handed}
 use Rattle.calculus.specs.Forms.{listedForms, handedModel}
 use Rattle.calculus.specs.Check.{assignmentOf}
 use Rattle.calculus.specs.Calls.{Verdict, FORMS, FALSE, SPENT, NOROOM, Answer, refusal, ended, Outcome, call}
-use Rattle.page.specs.Text.{decimal, number, separated, braces, assigned}
+use Rattle.text.specs.Text.{decimal, number, separated, braces, assigned}
 
 -- ---- the first line
 

@@ -3,7 +3,7 @@ use mathlib.Core.Path.{_≡_}
 use mathlib.Core.Bool.{Bool, cond}
 use mathlib.Core.List.{List, [], _∷_, _++_}
 use Prim.Native.Nat.{ℕ, _+_, _/_, _%_}
-use lib.ListN.{length, getD}
+use lib.ListN.{getD}
 use lib.Dec.{eqb}
 use Rattle.calculus.specs.Terms.{term, setVar}
 use Rattle.calculus.specs.Problem.{Problem}
@@ -11,18 +11,8 @@ use Rattle.calculus.specs.Reading.{Parsed, parsed, refused, read}
 use Rattle.calculus.specs.Forms.{rootInside, modelNumber, handedModel}
 use Rattle.calculus.specs.Calls.{Verdict, FORMS, FALSE, SPENT, NOROOM, Answer, refusal, ended, answerWord}
 use Rattle.calculus.specs.Demands.{Shape, Valued}
-use Rattle.output.specs.State.{putAt}
-use Rattle.page.specs.Text.{number}
+use Rattle.text.specs.Text.{number, led}
 use Rattle.page.specs.Listing.{items, programCall, listing}
-
--- text was written at a place of a buffer: the buffer after it, and where the text ends (whoever writes sees to it that there is room)
-pub record Wrote (before : List ℕ) (at : ℕ) (text : List ℕ) (end : ℕ) (after : List ℕ) : Type 0 where
-  pub after-is : after ≡ putAt before at text
-  pub ends : end ≡ at + length text
-
--- a separator, unless nothing was written since a place
-unfoldable pub led : (c start end : ℕ) → List ℕ
-led c start end = cond (eqb end start) [] (c ∷ [])
 
 -- the problem that was read (of what is refused, one without anything)
 unfoldable pub problemOf : Parsed Problem → Problem

@@ -1,11 +1,12 @@
 // The line of a solved form: what its model gives each variable and set.
-use crate::text::number;
-use crate::text::say;
 use branch::has;
 use branch::inside_in;
 use branch::root_in;
-use checker::word;
 use problem::Table;
+use slices::word;
+use text::lead;
+use text::number;
+use text::say;
 ghost use mathlib.Core.Path.{_≡_};
 ghost use mathlib.Core.List.{_∷_, [], _++_};
 ghost use Prim.Native.Nat.{suc, _+_, _≤_, _<_};
@@ -15,21 +16,9 @@ ghost use Rattle.calculus.specs.Terms.{term, setVar};
 ghost use Rattle.calculus.specs.Reading.{signed};
 ghost use Rattle.calculus.specs.Forms.{recordLength, modelNumber, model};
 ghost use Rattle.problem.specs.Table.{Opened};
-ghost use Rattle.page.specs.Text.{braces};
+ghost use Rattle.text.specs.Text.{braces, Wrote};
 ghost use Rattle.page.specs.Listing.{formLine};
-ghost use Rattle.page.specs.Writing.{Wrote, Shaped, problemIn, led, inside, memberText, itemAt};
-
-// A separator, unless nothing was written since a place.
-fn lead(separator: u8, text: &mut [u8], start: usize, end: usize) -> usize
-    requires { ⌜ end + 1 ≤ length (now text) ⌝ }
-    ensures { λ r. ⌜ Wrote (now (text .entry)) end (led separator start end) r (now (text .exit)) × (r ≤ end + 1) ⌝ }
-{
-    if end == start {
-        return end;
-    }
-    let byte = [separator];
-    say(&byte, text, end)
-}
+ghost use Rattle.page.specs.Writing.{Shaped, problemIn, inside, memberText, itemAt};
 
 // The value of term t in the model.
 fn value(problem: &[u8], tab: Table, form: &[u8], t: usize) -> u16

@@ -1,6 +1,5 @@
 // The text of a listing.
 mod form;
-mod text;
 
 use branch::record_length;
 use form::form_line;
@@ -12,8 +11,9 @@ ghost use mathlib.Core.List.{List};
 ghost use Prim.Native.Nat.{ℕ, _+_, _/_, _≤_};
 ghost use lib.ListN.{length};
 ghost use Rattle.calculus.specs.Calls.{over};
+ghost use Rattle.text.specs.Text.{Wrote};
 ghost use Rattle.page.specs.Listing.{heading as Listing·heading, verdictName, listing};
-ghost use Rattle.page.specs.Writing.{Wrote, verdictAt, answerIn, Ran, lineAt};
+ghost use Rattle.page.specs.Writing.{verdictAt, answerIn, Ran, lineAt};
 
 // The name of a verdict.
 fn name(verdict: u64, text: &mut [u8]) -> usize

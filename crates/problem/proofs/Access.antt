@@ -22,11 +22,12 @@ use Rattle.calculus.proofs.Sections.{First}
 use Rattle.calculus.proofs.ReadValid.{first-question, read-first, read-valid}
 use Rattle.calculus.proofs.Refuses.{refuses}
 use Rattle.problem.specs.declared.Table.{Table}
+use Rattle.slices.specs.Bytes.{placesFrom}
+use Rattle.slices.proofs.Parts.{filled-at}
 use Rattle.questions.specs.Questions.{constantsOf, constantAt}
-use Rattle.problem.specs.Sections.{startsFrom, witnessesFrom, filled}
+use Rattle.problem.specs.Sections.{startsFrom, witnessesFrom}
 use Rattle.problem.specs.Table.{headerLength, problemTable, tableIs, tableOf, Opened, Stands, valuesOf, constantOf, constraintsOf, noConstraint, constraintOf, kindOf, witnessesOf, witnessOf}
 use Rattle.questions.proofs.Constants.{constant-at}
-use Rattle.problem.proofs.ConstraintSteps.{starts-length}
 
 -- ---- an opened table is that of a problem that was read
 
@@ -83,16 +84,13 @@ constant-read bs tab t o l =
 -- constraint i stands where its offset says
 stands-at : (bs : List ℕ) (ls : List Constraint) (at i : ℕ) → drop at bs ≡ gather encodeConstraint ls → i < length ls
     → drop (getD (startsFrom at ls) i 0) bs ≡ encodeConstraint (getD ls i noConstraint) ++ gather encodeConstraint (drop (suc i) ls)
-unfolding startsFrom
+unfolding placesFrom
 stands-at bs [] at i e l = absurd (omega arith)
 stands-at bs (x ∷ ls) at zero e l = e
 stands-at bs (x ∷ ls) at (suc i) e l =
     stands-at bs ls (at + length (encodeConstraint x)) i
     (sym (drop-drop (length (encodeConstraint x)) at bs) ∙ ap (drop (length (encodeConstraint x))) e ∙ drop-append-seam (encodeConstraint x) (gather encodeConstraint ls))
     (le-of-suc-le-suc l)
-
-filled-at : (xs : List ℕ) (i : ℕ) → i < length xs → getD (filled xs) i 0 ≡ getD xs i 0
-filled-at xs i l = List·getD-append xs (replicate (mostConstraints - length xs) 0) 0 i l
 
 pub record Placed (bs : List ℕ) (tab : Table) (i : ℕ) : Type 0 where
   pub small : i < mostConstraints
@@ -127,7 +125,7 @@ placed bs tab i o l =
     let n : tab .constraints ≡ length (prob .constraints) = ap (λ (t : Table). t .constraints) (r .shows) in
     let li : i < length (prob .constraints) = omega arith in
     let s : List ℕ = startsFrom (headerLength prob) (prob .constraints) in
-    let a : getD (tab .offsets) i 0 ≡ getD s i 0 = ap (λ (t : Table). getD (t .offsets) i 0) (r .shows) ∙ filled-at s i (omega (arith, starts-length (headerLength prob) (prob .constraints))) in
+    let a : getD (tab .offsets) i 0 ≡ getD s i 0 = ap (λ (t : Table). getD (t .offsets) i 0) (r .shows) ∙ filled-at mostConstraints s i in
     let c : constraintOf bs i ≡ getD (prob .constraints) i noConstraint = rw (r .reads) in
     let more : List ℕ = gather encodeConstraint (drop (suc i) (prob .constraints)) in
     let h : drop (getD (tab .offsets) i 0) bs ≡ encodeConstraint (constraintOf bs i) ++ more =
@@ -226,25 +224,15 @@ module _ (bs : List ℕ) (i at : ℕ) (s : Stands bs i at) where
 
 -- ---- the witnesses
 
-filled-any : (xs : List ℕ) (i : ℕ) → i < mostConstraints → getD (filled xs) i 0 ≡ getD xs i 0
-filled-any xs i l = go (decLt i (length xs))
-  where
-    go : Dec (i < length xs) → getD (filled xs) i 0 ≡ getD xs i 0
-    go (yes h) = filled-at xs i h
-    go (no h) =
-        let f : length xs ≤ i = omega arith in
-        let z : i ≡ length xs + (i - length xs) = omega arith in
-        ap (λ (x : ℕ). getD (filled xs) x 0) z ∙ getD-append-add xs (replicate (mostConstraints - length xs) 0) (i - length xs) 0 ∙ getD-replicate (mostConstraints - length xs) (i - length xs) 0 0 (omega arith) ∙ sym (List·getD-eq-default xs 0 f)
-
 pub witness-read : (bs : List ℕ) (tab : Table) (i : ℕ) → Opened bs tab → i < mostConstraints → term (getD (tab .witnesses) i 0) ≡ witnessOf bs i
 unfolding problemTable witnessOf witnessesOf
 witness-read bs tab i o l =
     let r = opened bs tab o in
     let w : List ℕ = witnessesFrom (nameable (r .prob)) (r .prob .constraints) in
-    rw (r .reads) (ap term (ap (λ (t : Table). getD (t .witnesses) i 0) (r .shows) ∙ filled-any w i l))
+    rw (r .reads) (ap term (ap (λ (t : Table). getD (t .witnesses) i 0) (r .shows) ∙ filled-at mostConstraints w i))
 
 numbered-at : (ls : List Constraint) (w last i : ℕ) → Numbered w last ls → i < length ls → Tied (getD (witnessesFrom w ls) i 0) (getD ls i noConstraint)
-unfolding witnessesFrom
+unfolding placesFrom
 numbered-at [] w last i n l = absurd (omega arith)
 numbered-at (x ∷ ls) w last zero n l = n .0
 numbered-at (x ∷ ls) w last (suc i) n l = numbered-at ls (w + uses x) last i (n .1) (le-of-suc-le-suc l)

@@ -22,7 +22,9 @@ use Rattle.calculus.proofs.ConstraintParsers.{constraint-reads, constraints-rea
 use Rattle.questions.specs.declared.Parsed.{Parsed as Step}
 use Rattle.problem.specs.declared.sections.Tables.{Tables}
 use Rattle.questions.specs.Questions.{constantsOf, parsedOf}
-use Rattle.problem.specs.Sections.{startsFrom, witnessesFrom, filled, refusedTables, tablesOf}
+use Rattle.slices.specs.Bytes.{placesFrom, filled}
+use Rattle.slices.proofs.Parts.{places-length}
+use Rattle.problem.specs.Sections.{startsFrom, witnessesFrom, refusedTables, tablesOf}
 
 -- ---- the next witness's number matters only to the witness
 
@@ -214,22 +216,12 @@ unfoldable pub fillFrom : ℕ → ℕ → ℕ → ℕ → List ℕ → List ℕ 
 fillFrom len at w i offs wits (parsed a) = record { refusal = 0; next = len - length (a .2); terms = a .1; offsets = sets offs i (startsFrom at (a .0)); witnesses = sets wits i (map (λ x. x % 256) (witnessesFrom w (a .0))) }
 fillFrom len at w i offs wits (refused n) = refusedTables n
 
-pub starts-length : (at : ℕ) (ls : List Constraint) → length (startsFrom at ls) ≡ length ls
-unfolding startsFrom
-starts-length at [] = refl
-starts-length at (l ∷ ls) = ap suc (starts-length (at + length (encodeConstraint l)) ls)
-
-pub witnesses-length : (w : ℕ) (ls : List Constraint) → length (witnessesFrom w ls) ≡ length ls
-unfolding witnessesFrom
-witnesses-length w [] = refl
-witnesses-length w (l ∷ ls) = ap suc (witnesses-length (w + uses l) ls)
-
 drop-zeros : (n k : ℕ) → drop {A = ℕ} n (replicate k 0) ≡ replicate (k - n) 0
 drop-zeros zero k = let e : k ≡ k - 0 = omega arith in ap (λ (x : ℕ). replicate x 0) e
 drop-zeros (suc n) zero = let e : 0 ≡ 0 - suc n = omega arith in ap (λ (x : ℕ). replicate x 0) e
 drop-zeros (suc n) (suc k) = let e : k - n ≡ suc k - suc n = omega arith in drop-zeros n k ∙ ap (λ (x : ℕ). replicate x 0) e
 
-stored : (xs : List ℕ) → length xs ≤ mostConstraints → filled xs ≡ sets (replicate mostConstraints 0) 0 xs
+stored : (xs : List ℕ) → length xs ≤ mostConstraints → filled mostConstraints xs ≡ sets (replicate mostConstraints 0) 0 xs
 stored xs l =
     let e : mostConstraints - (0 + length xs) ≡ mostConstraints - length xs = omega arith in
     sym (sets-eq xs (replicate mostConstraints 0) 0 (omega arith) ∙ ap (λ (ys : List ℕ). xs ++ ys) (drop-zeros (0 + length xs) mostConstraints ∙ ap (λ (x : ℕ). replicate x 0) e))
@@ -250,14 +242,14 @@ module _ (cs : List ℤ) (N S : ℕ) (bs : List ℕ) where
           let y : h .0 .0 ≡ a .0 = cc (h .4) in
           let n : length (a .0) ≡ m = sym (ap length y) ∙ h .5 .0 in
           ap₂ (λ (x y : List ℕ). record { refusal = 0; next = length bs - length (a .2); terms = a .1; offsets = x; witnesses = y })
-          (stored (startsFrom at (a .0)) (omega (arith, starts-length at (a .0))))
-          (stored (map (λ x. x % 256) (witnessesFrom w (a .0))) (omega (arith, witnesses-length w (a .0), length-map (witnessesFrom w (a .0)) (λ x. x % 256))))
+          (stored (startsFrom at (a .0)) (omega (arith, places-length (λ l. length (encodeConstraint l)) at (a .0))))
+          (stored (map (λ x. x % 256) (witnessesFrom w (a .0))) (omega (arith, places-length uses w (a .0), length-map (witnessesFrom w (a .0)) (λ x. x % 256))))
       go (refused n) q = refl
 
   fill-step : (at w i n : ℕ) (offs wits : List ℕ) (one : Step) (h : One cs N S bs at w one)
       → fillFrom (length bs) at w i offs wits (rest at w (suc n))
       ≡ fillFrom (length bs) (one .next) (w + one .witnesses) (suc i) (set offs i at) (set wits i (w % 256)) (rest (one .next) (w + one .witnesses) n)
-  unfolding fillFrom startsFrom witnessesFrom _>>=_
+  unfolding fillFrom placesFrom _>>=_
   fill-step at w i n offs wits one h = rw (h .reads, h .witness) (go (rest (one .next) (w + uses (h .this)) n))
     where
       go : (p : Parsed (List Constraint × ℕ × List ℕ)) → fillFrom (length bs) at w i offs wits (p >>= λ a. parsed (h .this ∷ a .0, a .1, a .2))
@@ -281,7 +273,7 @@ module _ (cs : List ℤ) (N S : ℕ) (bs : List ℕ) where
       rw (n, one-stops cs N S bs at w one e z (m - (i + 1)))
 
   pub fill-end : (at w i m : ℕ) (offs wits : List ℕ) → at ≤ length bs → m ≤ i → fillFrom (length bs) at w i offs wits (rest at w (m - i)) ≡ record { refusal = 0; next = at; terms = w; offsets = offs; witnesses = wits }
-  unfolding fillFrom startsFrom witnessesFrom
+  unfolding fillFrom placesFrom
   fill-end at w i m offs wits l d =
       let n : m - i ≡ 0 = omega arith in
       let e : length bs - length (drop at bs) ≡ at = omega (arith, length-drop at bs) in

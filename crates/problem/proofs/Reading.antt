@@ -21,7 +21,8 @@ use Rattle.problem.specs.declared.Table.{Table}
 use Rattle.problem.specs.declared.sections.Section.{Section}
 use Rattle.problem.specs.declared.sections.Tables.{Tables}
 use Rattle.questions.specs.Questions.{ConstantsRise, constantsOf}
-use Rattle.problem.specs.Sections.{counted, section, constantsTest, variablesTest, setsTest, constantsSection, variablesSection, setsSection, sectionOf, variablesOf, setsOf, startsFrom, witnessesFrom, filled, tablesOf}
+use Rattle.slices.specs.Bytes.{placesFrom, filled}
+use Rattle.problem.specs.Sections.{counted, section, constantsTest, variablesTest, setsTest, constantsSection, variablesSection, setsSection, sectionOf, variablesOf, setsOf, startsFrom, witnessesFrom, tablesOf}
 use Rattle.problem.specs.Table.{refusedTable, problemTable, tableIs, tableOf}
 use Rattle.problem.proofs.SectionLaws.{Stands, byte-none, byte-at, section-stops, section-goes}
 use Rattle.questions.proofs.Constants.{constants-length}
@@ -137,8 +138,8 @@ pub record AllRead (cs : List ℤ) (N S : ℕ) (bs : List ℕ) (at m : ℕ) (all
   pub fits : length rest ≤ length bs
   pub many : length them ≡ m
   pub numbered : Numbered N (all .terms) them
-  pub offsets : all .offsets ≡ filled (startsFrom at them)
-  pub witnesses : all .witnesses ≡ filled (map (λ x. x % 256) (witnessesFrom N them))
+  pub offsets : all .offsets ≡ filled mostConstraints (startsFrom at them)
+  pub witnesses : all .witnesses ≡ filled mostConstraints (map (λ x. x % 256) (witnessesFrom N them))
 
 module _ (cs : List ℤ) (N S : ℕ) (bs : List ℕ) (at m : ℕ) (all : Tables) (e : all ≡ tablesOf (length bs) at N (constraints cs N S N m (drop at bs))) where
   abbrev mine : Parsed (List Constraint × ℕ × List ℕ)
@@ -184,7 +185,7 @@ module _ (cs : List ℤ) (N S : ℕ) (bs : List ℕ) (at m : ℕ) (all : Tables)
           absurd (omega (arith, f .0))
 
 small-witnesses : (ls : List Constraint) (w last : ℕ) → Numbered w last ls → last < 256 → map (λ x. x % 256) (witnessesFrom w ls) ≡ witnessesFrom w ls
-unfolding witnessesFrom
+unfolding placesFrom
 small-witnesses [] w last n l = refl
 small-witnesses (x ∷ ls) w last n l =
     let e : w % 256 ≡ w = omega (arith, last-le ls (w + uses x) last (n .1)) in
@@ -271,12 +272,12 @@ module _ (bs : List ℕ) (at k n s : ℕ) (place : at ≡ 3 + 2 * k + n + s) (fi
       table-made o t =
           let a : all .terms ≡ k + n + (all .terms - (k + n)) = omega (arith, last-le (told .them) (k + n) (all .terms) (told .numbered)) in
           let b : at + 1 ≡ 4 + 2 * k + n + s = omega arith in
-          let w : all .witnesses ≡ filled (witnessesFrom (k + n) (told .them)) = told .witnesses ∙ ap filled (small-witnesses (told .them) (k + n) (all .terms) (told .numbered) (omega arith)) in
-          let f : all .offsets ≡ filled (startsFrom (4 + 2 * k + n + s) (told .them)) = told .offsets ∙ ap (λ (x : ℕ). filled (startsFrom x (told .them))) b in
+          let w : all .witnesses ≡ filled mostConstraints (witnessesFrom (k + n) (told .them)) = told .witnesses ∙ ap (filled mostConstraints) (small-witnesses (told .them) (k + n) (all .terms) (told .numbered) (omega arith)) in
+          let f : all .offsets ≡ filled mostConstraints (startsFrom (4 + 2 * k + n + s) (told .them)) = told .offsets ∙ ap (λ (x : ℕ). filled mostConstraints (startsFrom x (told .them))) b in
           let h : 4 + 2 * k + n + s ≡ 4 + 2 * length cs + length ns + length ss = omega (arith, count-k, count-n, count-s) in
           let g : k + n ≡ length cs + length ns = omega (arith, count-k, count-n) in
           let d : all .terms ≡ length cs + length ns + (all .terms - (k + n)) = omega (arith, count-k, count-n) in
-          parts (sym count-k) (sym count-n) (sym count-s) (sym (told .many)) d (f ∙ ap (λ (x : ℕ). filled (startsFrom x (told .them))) h) (w ∙ ap (λ (x : ℕ). filled (witnessesFrom x (told .them))) g)
+          parts (sym count-k) (sym count-n) (sym count-s) (sym (told .many)) d (f ∙ ap (λ (x : ℕ). filled mostConstraints (startsFrom x (told .them))) h) (w ∙ ap (λ (x : ℕ). filled mostConstraints (witnessesFrom x (told .them))) g)
           ∙ sym (ap tableIs (accepted o t))
 
 -- ---- `read`, after each section

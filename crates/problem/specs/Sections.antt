@@ -1,6 +1,6 @@
 -- The sections of a problem, one by one: what each function answers. Assumes nothing: these are definitions.
 use mathlib.Core.Bool.{Bool, _&&_}
-use mathlib.Core.List.{List, [], _∷_, _++_, map}
+use mathlib.Core.List.{List, map}
 use Prim.Native.Nat.{ℕ, _+_, _*_, _-_, _%_}
 use lib.ListN.{length, take, drop, replicate}
 use lib.Dec.{leb}
@@ -9,6 +9,7 @@ use Rattle.calculus.specs.Meaning.{Constraint}
 use Rattle.calculus.specs.Problem.{uses}
 use Rattle.calculus.specs.Encoding.{encodeConstraint}
 use Rattle.calculus.specs.Reading.{Parsed, parsed, refused, _>>=_, ask, byte, bytes, words, ascending, inRange, letters}
+use Rattle.slices.specs.Bytes.{placesFrom, filled}
 use Rattle.problem.specs.declared.sections.Section.{Section}
 use Rattle.problem.specs.declared.sections.Tables.{Tables}
 use Rattle.questions.specs.Questions.{constantsOf}
@@ -65,23 +66,17 @@ setsOf bs k n s = take s (drop (3 + 2 * k + n) bs)
 -- ---- the constraints
 
 -- where each stands, the first at a place
-unfoldable pub startsFrom : ℕ → List Constraint → List ℕ
-startsFrom at [] = []
-startsFrom at (l ∷ ls) = at ∷ startsFrom (at + length (encodeConstraint l)) ls
+abbrev pub startsFrom : ℕ → List Constraint → List ℕ
+startsFrom at ls = placesFrom (λ l. length (encodeConstraint l)) at ls
 
 -- the term number of each one's witness, w being the next: that one too where it has none
-unfoldable pub witnessesFrom : ℕ → List Constraint → List ℕ
-witnessesFrom w [] = []
-witnessesFrom w (l ∷ ls) = w ∷ witnessesFrom (w + uses l) ls
-
--- a table of mostConstraints, filled up with 0
-abbrev pub filled : List ℕ → List ℕ
-filled xs = xs ++ replicate (mostConstraints - length xs) 0
+abbrev pub witnessesFrom : ℕ → List Constraint → List ℕ
+witnessesFrom w ls = placesFrom uses w ls
 
 abbrev pub refusedTables : ℕ → Tables
 refusedTables n = record { refusal = n; next = 0; terms = 0; offsets = replicate mostConstraints 0; witnesses = replicate mostConstraints 0 }
 
 -- the number that refuses one; or where they end, how many terms there are, and both tables (question 11 comes later, so a witness is told by its last byte)
 unfoldable pub tablesOf : ℕ → ℕ → ℕ → Parsed (List Constraint × ℕ × List ℕ) → Tables
-tablesOf len at w (parsed a) = record { refusal = 0; next = len - length (a .2); terms = a .1; offsets = filled (startsFrom at (a .0)); witnesses = filled (map (λ x. x % 256) (witnessesFrom w (a .0))) }
+tablesOf len at w (parsed a) = record { refusal = 0; next = len - length (a .2); terms = a .1; offsets = filled mostConstraints (startsFrom at (a .0)); witnesses = filled mostConstraints (map (λ x. x % 256) (witnessesFrom w (a .0))) }
 tablesOf len at w (refused n) = refusedTables n

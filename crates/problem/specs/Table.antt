@@ -10,9 +10,10 @@ use Rattle.calculus.specs.Relations.{equal, union, disjoint, subset, intersecti
 use Rattle.calculus.specs.Meaning.{Constraint, member, nonmember, same, different, relation, negation, exactly, interval}
 use Rattle.calculus.specs.Problem.{Problem, constantCount, nameable, termCount, setCount}
 use Rattle.calculus.specs.Reading.{Parsed, parsed, refused, read}
+use Rattle.slices.specs.Bytes.{filled}
 use Rattle.problem.specs.declared.Table.{Table}
 use Rattle.problem.specs.declared.Totals.{Totals}
-use Rattle.problem.specs.Sections.{startsFrom, witnessesFrom, filled}
+use Rattle.problem.specs.Sections.{startsFrom, witnessesFrom}
 
 -- the bytes before the constraints: four count bytes, two for each constant, a letter for each variable and set
 abbrev pub headerLength : Problem → ℕ
@@ -32,8 +33,8 @@ problemTable prob = record {
   sets = setCount prob;
   constraints = length (prob .constraints);
   terms = termCount prob;
-  offsets = filled (startsFrom (headerLength prob) (prob .constraints));
-  witnesses = filled (witnessesFrom (nameable prob) (prob .constraints));
+  offsets = filled mostConstraints (startsFrom (headerLength prob) (prob .constraints));
+  witnesses = filled mostConstraints (witnessesFrom (nameable prob) (prob .constraints));
 }
 
 unfoldable pub tableIs : Parsed Problem → Table

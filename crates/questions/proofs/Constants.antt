@@ -2,36 +2,23 @@
 use mathlib.Core.Path.{_≡_, refl, sym, ap, ap₂, _∙_}
 use mathlib.Core.Bool.{Bool, true, false, _&&_}
 use mathlib.Core.List.{List, [], _∷_, map}
-use Prim.Native.Nat.{ℕ, zero, suc, _+_, _*_, _-_, _%_, _<_, _≤_}
+use Prim.Native.Nat.{ℕ, zero, suc, _+_, _*_, _-_, _<_, _≤_}
 use native.Mathlib.Omega.{arith}
 use native.Mathlib.Decide.{ℕ-discrete}
 use native.Mathlib.Nat.{le-of-suc-le-suc}
 use lib.ListN.{length, getD, take, drop, length-take, length-drop}
-use lib.Seq.{drop-cons}
 use lib.Dec.{eqb, ltb}
 use lib.IntN.{ℤ, pos, sucℤ}
 use lib.Signed.{_<ℤ_, ltZ}
-use mir.Syntax.{w8}
-use mir.Val.{Fits}
 use borrow.Author.Tests.{eq-eqb, ne-eqb, eqb-true, ltb-true}
 use Rattle.calculus.specs.Lists.{all, upFrom}
 use Rattle.calculus.specs.Reading.{words, eqZ, gapless}
 use Rattle.calculus.proofs.Words.{words-length}
 use Rattle.calculus.proofs.Integers.{passed}
-use Rattle.questions.specs.Questions.{ConstantsRise, raisedAt, wordAt, constantAt, constantsOf}
-use Rattle.questions.proofs.SignedWords.{raise, raised-next, raised-order}
-
--- every entry is a byte
-abbrev pub AllBytes : List ℕ → Type 0
-AllBytes bs = (i : ℕ) → Fits w8 (getD bs i 0)
-
-pub word-fits : (bs : List ℕ) → AllBytes bs → (p : ℕ) → wordAt bs p < 65536
-word-fits bs known p = omega (arith, known (1 + 2 * p), known (2 + 2 * p))
-
--- the code's number of constant p
-pub raised-word : (bs : List ℕ) (p : ℕ) → raisedAt bs (1 + 2 * p) ≡ raise (wordAt bs p)
-unfolding raisedAt
-raised-word bs p = let e : suc (1 + 2 * p) ≡ 2 + 2 * p = omega arith in ap (λ (i : ℕ). (getD bs (1 + 2 * p) 0 + 256 * getD bs i 0 + 32768) % 65536) e
+use Rattle.slices.specs.Bytes.{bytesAt, raisedAt}
+use Rattle.slices.proofs.Parts.{two-more, AllBytes, bytes-fit}
+use Rattle.slices.proofs.SignedWords.{raised-next, raised-order}
+use Rattle.questions.specs.Questions.{ConstantsRise, constantAt, constantsOf}
 
 -- ---- n numbers from s upward
 
@@ -57,13 +44,7 @@ module _ (bs : List ℕ) where
   from zero s l = refl
   from (suc k) s l =
       let two : 2 * suc k ≡ suc (suc (2 * k)) = omega arith in
-      let one : suc (1 + 2 * s) ≡ 2 + 2 * s = omega arith in
-      let on : suc (2 + 2 * s) ≡ 1 + 2 * suc s = omega arith in
-      let split : drop (1 + 2 * s) bs ≡ getD bs (1 + 2 * s) 0 ∷ getD bs (2 + 2 * s) 0 ∷ drop (1 + 2 * suc s) bs
-      = drop-cons bs (1 + 2 * s) 0 (omega arith)
-      ∙ ap (λ (t : List ℕ). getD bs (1 + 2 * s) 0 ∷ t) (ap (λ (i : ℕ). drop i bs) one ∙ drop-cons bs (2 + 2 * s) 0 (omega arith)
-      ∙ ap (λ (i : ℕ). getD bs (2 + 2 * s) 0 ∷ drop i bs) on) in
-      ap₂ (λ (n : ℕ) (t : List ℕ). words (take n t)) two split ∙ ap (λ (t : List ℤ). constantAt bs s ∷ t) (from k (suc s) (omega arith))
+      ap₂ (λ (n : ℕ) (t : List ℕ). words (take n t)) two (two-more bs (1 + 2 * s) (1 + 2 * suc s) (omega arith) (omega arith)) ∙ ap (λ (t : List ℤ). constantAt bs s ∷ t) (from k (suc s) (omega arith))
 
   pub constants-are : (k : ℕ) → 1 + 2 * k ≤ length bs → constantsOf bs k ≡ map (constantAt bs) (upFrom 0 k)
   unfolding constantsOf
@@ -83,22 +64,25 @@ module _ (bs : List ℕ) (known : AllBytes bs) (k : ℕ) (room : 1 + 2 * k ≤ l
   abbrev At : ℕ → ℕ
   At p = raisedAt bs (1 + 2 * p)
 
+  abbrev word : ℕ → ℕ
+  word p = bytesAt bs (1 + 2 * p)
+
   -- constant p + 1 is one more than constant p
   abbrev follows : ℕ → Bool
   follows p = eqZ (getD (constantsOf bs k) (suc p) (pos 0)) (sucℤ (getD (constantsOf bs k) p (pos 0)))
 
   follows-raised : (p : ℕ) → suc p < k → follows p ≡ eqb (At (suc p)) (suc (At p))
+  unfolding raisedAt
   follows-raised p l =
       ap₂ (λ (x y : ℤ). eqZ x (sucℤ y)) (constant-at bs k (suc p) room l) (constant-at bs k p room (omega arith))
-      ∙ sym (raised-next (wordAt bs p) (wordAt bs (suc p)) (word-fits bs known p) (word-fits bs known (suc p)))
-      ∙ ap₂ (λ (x y : ℕ). eqb x (suc y)) (sym (raised-word bs (suc p))) (sym (raised-word bs p))
+      ∙ sym (raised-next (word p) (word (suc p)) (bytes-fit bs known (1 + 2 * p)) (bytes-fit bs known (1 + 2 * suc p)))
 
   rises : (p : ℕ) → suc p < k → At p < At (suc p)
+  unfolding raisedAt
   rises p l =
       let h : suc p < length (constantsOf bs k) = rw (constants-length bs k room) l in
       let u : constantAt bs p <ℤ constantAt bs (suc p) = rw (constant-at bs k p room (omega arith), constant-at bs k (suc p) room l) at (up p (suc p) (omega arith) h) in
-      ltb-true (At p) (At (suc p)) (ap₂ ltb (raised-word bs p) (raised-word bs (suc p))
-      ∙ raised-order (wordAt bs p) (wordAt bs (suc p)) (word-fits bs known p) (word-fits bs known (suc p))
+      ltb-true (At p) (At (suc p)) (raised-order (word p) (word (suc p)) (bytes-fit bs known (1 + 2 * p)) (bytes-fit bs known (1 + 2 * suc p))
       ∙ passed (ltZ (constantAt bs p) (constantAt bs (suc p))) (u .lt))
 
   -- d places on, a value is at least d higher
@@ -128,7 +112,3 @@ module _ (bs : List ℕ) (known : AllBytes bs) (k : ℕ) (room : 1 + 2 * k ≤ l
 
 pub none-between : (bs : List ℕ) (k i j : ℕ) → j ≤ i → true ≡ gapless (constantsOf bs k) i j
 none-between bs k i j l = let e : j - i ≡ 0 = omega arith in rw e refl
-
-pub raised-small : (bs : List ℕ) (at : ℕ) → raisedAt bs at < 65536
-unfolding raisedAt
-raised-small bs at = omega arith

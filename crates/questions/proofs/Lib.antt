@@ -1,4 +1,3 @@
-pub mod SignedWords
 pub mod Constants
 pub mod Rises
 pub mod Parts

@@ -20,7 +20,7 @@ use Rattle.calculus.specs.Reading.{parsed, _>>=_, ask, byte, bytes, gapless, Pa
 use Rattle.questions.specs.declared.Parsed.{Parsed}
 use Rattle.questions.specs.Questions.{constantsOf, refusedBy, acceptedTo, parsedOf, twoAt, threeAt, listAt, intervalAt}
 use Rattle.questions.proofs.Constants.{constants-length}
-use Rattle.questions.proofs.Rises.{part-more}
+use Rattle.slices.proofs.Parts.{part-more}
 
 -- ---- what is left of the bytes from a place on
 

@@ -1,7 +1,7 @@
 -- What the functions that ask the questions compute. Assumes nothing: these are definitions.
 use mathlib.Core.Bool.{_&&_, not, cond}
 use mathlib.Core.List.{List}
-use Prim.Native.Nat.{ℕ, suc, _+_, _*_, _-_, _%_}
+use Prim.Native.Nat.{ℕ, _+_, _*_, _-_}
 use lib.ListN.{length, getD, take, drop}
 use lib.Dec.{ltb, leb, eqb}
 use lib.IntN.{ℤ}
@@ -9,19 +9,13 @@ use Rattle.calculus.specs.Lists.{all}
 use Rattle.calculus.specs.Meaning.{Constraint}
 use Rattle.calculus.specs.Problem.{uses, Rising}
 use Rattle.calculus.specs.Reading as reading
-use Rattle.calculus.specs.Reading.{parsed, refused, signed, words, gapless}
+use Rattle.calculus.specs.Reading.{parsed, refused, words, gapless}
+use Rattle.slices.specs.Bytes.{wordAt}
 use Rattle.questions.specs.declared.Parsed.{Parsed}
 
--- two bytes, low first, 32,768 above their signed value: the same order, and no sign
-unfoldable pub raisedAt : List ℕ → ℕ → ℕ
-raisedAt bs at = (getD bs at 0 + 256 * getD bs (suc at) 0 + 32768) % 65536
-
--- the two bytes of constant p, and its value
-abbrev pub wordAt : List ℕ → ℕ → ℕ
-wordAt bs p = getD bs (1 + 2 * p) 0 + 256 * getD bs (2 + 2 * p) 0
-
+-- constant p
 abbrev pub constantAt : List ℕ → ℕ → ℤ
-constantAt bs p = signed (wordAt bs p)
+constantAt bs p = wordAt bs (1 + 2 * p)
 
 -- the first k constants of a problem
 unfoldable pub constantsOf : List ℕ → ℕ → List ℤ

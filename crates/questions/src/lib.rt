@@ -1,4 +1,6 @@
 // The questions that are asked of a problem's bytes, one function each.
+use slices::raised;
+use slices::rising;
 ghost use mathlib.Core.Path.{_≡_};
 ghost use mathlib.Core.Bool.{_&&_};
 ghost use Prim.Native.Nat.{_+_, _*_, _≤_, _<_};
@@ -7,7 +9,7 @@ ghost use lib.Dec.{ltb};
 ghost use Rattle.calculus.specs.Limits.{mostBytes, mostSets};
 ghost use Rattle.calculus.specs.Lists.{all};
 ghost use Rattle.calculus.specs.Reading.{ascending, inRange, letters, gapless, constraint};
-ghost use Rattle.questions.specs.Questions.{raisedAt, constantsOf, parsedOf, ConstantsRise, refusedBy, acceptedTo, twoAt, threeAt, listAt, intervalAt};
+ghost use Rattle.questions.specs.Questions.{constantsOf, parsedOf, ConstantsRise, refusedBy, acceptedTo, twoAt, threeAt, listAt, intervalAt};
 
 // How many constants and set variables there are, and how many terms a constraint can name.
 pub struct Sizes {
@@ -23,33 +25,13 @@ pub struct Parsed {
     pub witnesses: u8,
 }
 
-// Two bytes, low first, 32,768 above their signed value: the order is the same, and there is no sign.
-pub fn raised(problem: &[u8], at: usize) -> u32
-    requires { ⌜ at + 1 < length (now problem) ⌝ }
-    ensures { λ r. ⌜ r ≡ raisedAt (now (problem .entry)) at ⌝ }
-{
-    let lo = problem[at] as u32;
-    let hi = problem[at + 1] as u32;
-    (lo + 256 * hi + 32768) % 65536
-}
-
 // Question 3: the constants are strictly ascending, and from -32,000 to 32,000.
 pub fn constants_ok(problem: &[u8], k: usize) -> bool
     requires { ⌜ (1 + 2 * k ≤ length (now problem)) × (k < 256) ⌝ }
     ensures { λ r. ⌜ r ≡ (ascending (constantsOf (now (problem .entry)) k) && inRange (constantsOf (now (problem .entry)) k)) ⌝ }
 {
-    let mut least = 768;
-    for i in 0..k {
-        let value = raised(problem, 1 + 2 * i);
-        if value < least {
-            return false;
-        }
-        if 64768 < value {
-            return false;
-        }
-        least = value + 1;
-    }
-    true
+    let end = 1 + 2 * k;
+    rising(&problem[1..end], 768, 64768)
 }
 
 // Questions 4 and 5: strictly ascending letters from lo to hi.

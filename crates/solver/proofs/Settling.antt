@@ -12,9 +12,10 @@ use Rattle.branch.specs.declared.Branch.{Branch}
 use Rattle.branch.specs.declared.Asserted.{Asserted}
 use Rattle.search.specs.declared.Found.{Found}
 use Rattle.output.specs.declared.Counts.{Counts}
-use Rattle.output.specs.State.{State, putAt, state, counted, noted}
+use Rattle.slices.specs.Bytes.{putAt}
+use Rattle.output.specs.State.{State, state, counted, noted}
 use Rattle.output.proofs.Listing.{noted-there}
-use Rattle.output.proofs.Buffers.{put-length}
+use Rattle.slices.proofs.Buffers.{put-length}
 use Rattle.solver.specs.Outcomes.{remaining, Outcome, Leads}
 use Rattle.solver.proofs.Working.{spent-outcome, closed-outcome, step-leads}
 use Rattle.solver.proofs.Taking.{Taking, Made, stepped, child-less, closing, going}

@@ -36,8 +36,9 @@ use Rattle.step.specs.Left.{Left, Free, Turns}
 use Rattle.step.proofs.Turning.{left-count, taken-open, left-closed}
 use Rattle.step.proofs.Choosing.{applies-free}
 use Rattle.output.specs.declared.Counts.{Counts}
-use Rattle.output.specs.State.{State, putAt, state, counted, listed, noted, Fine}
-use Rattle.output.proofs.Buffers.{put-length}
+use Rattle.slices.specs.Bytes.{putAt}
+use Rattle.output.specs.State.{State, state, counted, listed, noted, Fine}
+use Rattle.slices.proofs.Buffers.{put-length}
 use Rattle.output.proofs.Listing.{noted-there}
 use Rattle.output.proofs.Playing.{play-kept}
 use Rattle.output.proofs.Tallied.{log-shaped}

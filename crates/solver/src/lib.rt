@@ -14,6 +14,7 @@ use search::Scope;
 use search::prepare;
 use search::search;
 use search::woken;
+use slices::numbers;
 use step::Act;
 use step::act_of;
 use step::child_at;
@@ -284,7 +285,7 @@ pub fn solve(
     ensures { λ r. ⌜ Runs (now (problem .entry)) budget (now (forms .entry)) (now (trace .entry)) (state r (now (forms .exit)) (now (trace .exit))) ⌝ }
 {
     let b = Branch::start(tab.constants);
-    let numbers = b.parents;
+    let numbers = numbers();
     let offsets = tab.offsets;
     let witnesses = tab.witnesses;
     let totals = Totals {

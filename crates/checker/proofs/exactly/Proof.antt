@@ -9,9 +9,9 @@ use Rattle.calculus.specs.Lists.{all}
 use Rattle.calculus.specs.Reading.{words}
 use Rattle.calculus.specs.Check.{has}
 use Rattle.calculus.proofs.Sequences.{each-at}
-use Rattle.questions.proofs.Rises.{part-more, part-done}
+use Rattle.slices.proofs.Parts.{part-more, part-done}
 use Rattle.checker.specs.Tested.{numberOf, Readable}
-use Rattle.checker.proofs.Numbers.{words-more, words-done}
+use Rattle.slices.proofs.TwoBytes.{words-more, words-done}
 use Rattle.checker.proofs.Turns.{fails, passes, all-passed}
 use Rattle.checker.proofs.Testing.{stops, goes-on}
 use Rattle.checker.proofs.exactly.Statement.{statement}

@@ -5,7 +5,7 @@ use native.Mathlib.Omega.{arith}
 use lib.ListN.{length, drop}
 use Rattle.calculus.specs.Reading.{signed, words}
 use Rattle.calculus.specs.Check.{has}
-use Rattle.checker.proofs.Numbers.{words-more, words-done}
+use Rattle.slices.proofs.TwoBytes.{words-more, words-done}
 use Rattle.checker.proofs.Turns.{found, not-here, not-found}
 use Rattle.checker.proofs.has.Statement.{statement}
 use Rattle.checker.proofs.has.Tie as tie

@@ -7,7 +7,7 @@ use lib.ListN.{length, drop}
 use Rattle.calculus.specs.Lists.{all}
 use Rattle.calculus.specs.Reading.{words}
 use Rattle.checker.specs.Tested.{relatedAt}
-use Rattle.checker.proofs.Numbers.{words-more, words-done}
+use Rattle.slices.proofs.TwoBytes.{words-more, words-done}
 use Rattle.checker.proofs.Turns.{fails, passes, all-passed}
 use Rattle.checker.proofs.Testing.{at-member}
 use Rattle.checker.proofs.holds_at.Statement.{statement}

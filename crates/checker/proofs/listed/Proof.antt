@@ -7,7 +7,7 @@ use lib.ListN.{length, drop}
 use Rattle.calculus.specs.Reading.{signed}
 use Rattle.calculus.specs.Check.{has}
 use Rattle.calculus.proofs.Sequences.{each-at}
-use Rattle.questions.proofs.Rises.{part-more, part-done}
+use Rattle.slices.proofs.Parts.{part-more, part-done}
 use Rattle.checker.specs.Tested.{numberOf, Readable}
 use Rattle.checker.proofs.Turns.{found, not-here, not-found}
 use Rattle.checker.proofs.listed.Statement.{statement}

@@ -10,14 +10,12 @@ use Rattle.calculus.proofs.Bools.{not-t, not-f}
 use Rattle.calculus.specs.Reading.{read}
 use Rattle.problem.specs.Table.{constraintsOf}
 use Rattle.problem.proofs.Access.{constraint-count}
-use Rattle.branch.proofs.Laws.{start-numbers}
 use Rattle.checker.specs.Tested.{seen}
 use Rattle.checker.proofs.Holding.{Passed, fails-at, passes-at, none-at, test-at}
 use Rattle.checker.proofs.lowest.Statement.{statement}
 use Rattle.checker.proofs.lowest.Tie as tie
 use Rattle.checker.proofs.lowest.Reads as reads
 use Rattle.checker.proofs.lowest.Lts as lts
-use Rattle.branch.proofs.Branch.start.Reads as start-reads
 use Rattle.checker.proofs.holds.Reads as holds-reads
 
 abbrev Inv-loop : tie.InvT-loop
@@ -27,11 +25,11 @@ Inv-loop problem tab assignment at numbers count i₀ i =
 abbrev μ-loop : tie.MeasureT-loop
 μ-loop problem tab assignment at numbers count i₀ i = count - i
 
-start-requires : tie.Need-start-requires Inv-loop μ-loop
-start-requires c κs = search needs
+numbers-requires : tie.Need-numbers-requires Inv-loop μ-loop
+numbers-requires c κs = search needs
 
 loop-holds : tie.Need-loop-holds Inv-loop μ-loop
-loop-holds c = (omega arith, refl, start-numbers _ _ (c .before .start .ensures))
+loop-holds c = (omega arith, refl, c .numbers .ensures)
 
 slice-aggregate-holds : tie.Need-slice-aggregate-holds Inv-loop μ-loop
 slice-aggregate-holds c = sym (ap length (c .before .before .loop .inv .2))
@@ -40,10 +38,10 @@ cast-holds : tie.Need-cast-holds Inv-loop μ-loop
 cast-holds c = search needs
 
 holds-requires : tie.Need-holds-requires Inv-loop μ-loop
-holds-requires c κs = let q = c .before .before .before .before .before .before .before .pre in (q .0, c .before .before .loop .inv .2, c .before .loop-test .taken, q .1)
+holds-requires c κs = let q = c .before .before .before .before .before .before .pre in (q .0, c .before .before .loop .inv .2, c .before .loop-test .taken, q .1)
 
 returns : tie.Need-returns Inv-loop μ-loop
-returns c = let q = c .before .before .before .before .before .before .before .before .before .pre in let n = constraint-count _ _ (q .0) in (fails-at _ _ _ n _ (c .before .before .before .loop-test .taken) (c .before .before .before .before .loop .inv .1) (test-at _ _ _ _ (sym (c .before .holds .ensures) ∙ not-t _ (c .if1 .taken))), omega (arith, c .before .before .before .loop-test .taken))
+returns c = let q = c .before .before .before .before .before .before .before .before .pre in let n = constraint-count _ _ (q .0) in (fails-at _ _ _ n _ (c .before .before .before .loop-test .taken) (c .before .before .before .before .loop .inv .1) (test-at _ _ _ _ (sym (c .before .holds .ensures) ∙ not-t _ (c .if1 .taken))), omega (arith, c .before .before .before .loop-test .taken))
 
 add-i : tie.Need-add-i Inv-loop μ-loop
 add-i c = search needs
@@ -52,10 +50,10 @@ loop-less : tie.Need-loop-less Inv-loop μ-loop
 loop-less c = omega (arith, c .before .before .before .loop-test .taken)
 
 loop-again : tie.Need-loop-again Inv-loop μ-loop
-loop-again c = let q = c .before .before .before .before .before .before .before .before .before .pre in let n = constraint-count _ _ (q .0) in (omega (arith, c .before .before .before .loop-test .taken), passes-at _ _ _ n _ (c .before .before .before .loop-test .taken) (c .before .before .before .before .loop .inv .1) (test-at _ _ _ _ (sym (c .before .holds .ensures) ∙ not-f _ (c .if1 .left))), c .before .before .before .before .loop .inv .2)
+loop-again c = let q = c .before .before .before .before .before .before .before .before .pre in let n = constraint-count _ _ (q .0) in (omega (arith, c .before .before .before .loop-test .taken), passes-at _ _ _ n _ (c .before .before .before .loop-test .taken) (c .before .before .before .before .loop .inv .1) (test-at _ _ _ _ (sym (c .before .holds .ensures) ∙ not-f _ (c .if1 .left))), c .before .before .before .before .loop .inv .2)
 
 returns-2 : tie.Need-returns-2 Inv-loop μ-loop
-returns-2 c = let q = c .before .before .before .before .before .before .pre in let n = constraint-count _ _ (q .0) in (none-at _ _ _ n _ (c .loop-test .left) (c .before .loop .inv .1), omega arith)
+returns-2 c = let q = c .before .before .before .before .before .pre in let n = constraint-count _ _ (q .0) in (none-at _ _ _ n _ (c .loop-test .left) (c .before .loop .inv .1), omega arith)
 
 pub lowest-spec : {M : Type 1} → statement M
 lowest-spec =
@@ -63,7 +61,7 @@ lowest-spec =
     (tie.spec
     Inv-loop
     μ-loop
-    start-requires
+    numbers-requires
     loop-holds
     slice-aggregate-holds
     cast-holds

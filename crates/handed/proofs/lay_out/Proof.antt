@@ -100,7 +100,7 @@ no-layout-requires-6 c κs = search needs
 returns-6 : tie.Need-returns-6 Inv-loop μ-loop
 returns-6 c =
     let v = c .before .before .before .before .before .before .before .before .loop in
-    refuses _ _ _ _ (c .no-layout6 .ensures) (unordered-set (v .inv .2) (omega arith) (omega arith) (c .before .before .before .before .if5 .left) _ (c .before .before .rising .ensures) (not-t _ (c .before .if6 .taken)))
+    refuses _ _ _ _ (c .no-layout6 .ensures) (unordered-set (v .inv .2) (omega arith) (omega arith) (c .before .before .before .before .if5 .left) (c .before .before .before .before .before .shared-slice-known3 .given) _ (c .before .before .rising .ensures) (not-t _ (c .before .if6 .taken)))
 
 mul-starts : tie.Need-mul-starts Inv-loop μ-loop
 mul-starts c = omega arith
@@ -124,7 +124,7 @@ loop-again : tie.Need-loop-again Inv-loop μ-loop
 loop-again c =
     let s = c .before .before .before .before .before .before .before .before .before .before .before .before .before in
     let v = c .before .before .before .before .before .before .before .loop in
-    (omega arith, omega arith, set-read (v .inv .2) (omega arith) (omega arith) (c .before .before .before .if5 .left) _ (c .before .rising .ensures) (s .pre) (not-f _ (c .if6 .left)))
+    (omega arith, omega arith, set-read (v .inv .2) (omega arith) (omega arith) (c .before .before .before .if5 .left) (c .before .before .before .before .shared-slice-known3 .given) _ (c .before .rising .ensures) (s .pre) (not-f _ (c .if6 .left)))
 
 no-layout-requires-7 : tie.Need-no-layout-requires-7 Inv-loop μ-loop
 no-layout-requires-7 c κs = search needs

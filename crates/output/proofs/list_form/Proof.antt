@@ -10,8 +10,7 @@ use Rattle.calculus.specs.Forms.{recordOf, recordLength}
 use Rattle.calculus.proofs.RecordFields.{record-length}
 use Rattle.branch.specs.Held.{held}
 use Rattle.output.specs.State.{state}
-use Rattle.output.proofs.Buffers.{record-front}
-use Rattle.output.proofs.Listing.{listed-not, listed-there, few-forms}
+use Rattle.output.proofs.Listing.{record-front, listed-not, listed-there, few-forms}
 use Rattle.output.proofs.list_form.Statement.{statement}
 use Rattle.output.proofs.list_form.Tie as tie
 

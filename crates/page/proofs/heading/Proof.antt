@@ -1,7 +1,7 @@
 -- `heading` meets its contract: a refusal's line and that of a run that ended, each piece right after the one before. Numbers are short enough that 64 bytes have room.
 use Prim.Native.Nat.{_/_, _%_}
 use native.Mathlib.Omega.{arith}
-use Rattle.page.proofs.Texts.{wrote-length, wrote-more, decimal-short}
+use Rattle.text.proofs.Texts.{wrote-length, wrote-more, decimal-short}
 use Rattle.page.proofs.Headings.{heading-refused, heading-ended, forms-short}
 use borrow.Author.Needs.{needs}
 use Rattle.page.proofs.heading.Statement.{statement}

@@ -5,7 +5,7 @@ use native.Mathlib.Omega.{arith}
 use Rattle.calculus.specs.Problem.{termCount}
 use Rattle.calculus.specs.Forms.{recordLength}
 use Rattle.page.specs.Writing.{problemIn, lineAt}
-use Rattle.page.proofs.Texts.{wrote-over}
+use Rattle.text.proofs.Texts.{wrote-over}
 use Rattle.page.proofs.Values.{known}
 use Rattle.page.proofs.LineLaws.{first-line, no-line, Counted, counted-form}
 use borrow.Author.Needs.{needs}

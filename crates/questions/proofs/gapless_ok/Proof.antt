@@ -2,7 +2,8 @@
 use Prim.Native.Nat.{_+_, _*_}
 use native.Mathlib.Omega.{arith}
 use borrow.Author.Needs.{needs}
-use Rattle.questions.proofs.Constants.{none-between, between, raised-small}
+use Rattle.slices.proofs.Parts.{raised-small}
+use Rattle.questions.proofs.Constants.{none-between, between}
 use Rattle.questions.proofs.gapless_ok.Statement.{statement}
 use Rattle.questions.proofs.gapless_ok.Tie as tie
 

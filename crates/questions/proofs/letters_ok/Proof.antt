@@ -4,7 +4,8 @@ use Prim.Native.Nat.{_-_, _≤_}
 use native.Mathlib.Omega.{arith}
 use lib.ListN.{length, drop}
 use Rattle.calculus.specs.Reading.{letters}
-use Rattle.questions.proofs.Rises.{rises, letters-rise, letter-low, letter-high, letter-on, letters-end}
+use Rattle.slices.specs.Bytes.{rises}
+use Rattle.questions.proofs.Rises.{letters-rise, letter-low, letter-high, letter-on, letters-end}
 use Rattle.questions.proofs.letters_ok.Statement.{statement}
 use Rattle.questions.proofs.letters_ok.Tie as tie
 

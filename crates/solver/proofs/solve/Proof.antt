@@ -2,7 +2,7 @@
 use mathlib.Core.Path.{refl, sym}
 use native.Mathlib.Omega.{arith}
 use borrow.Author.Needs.{needs}
-use Rattle.branch.proofs.Laws.{start-held, start-numbers}
+use Rattle.branch.proofs.Laws.{start-held}
 use Rattle.branch.proofs.Rowing.{start-sound}
 use Rattle.problem.proofs.Access.{opened-sizes}
 use Rattle.solver.proofs.Opening.{constants-few, terms-few}
@@ -18,6 +18,9 @@ entry c = c .before .before .before .before
 start-requires : tie.Need-start-requires
 start-requires c κs = let o = c .before .before .before .pre .0 in omega (arith, constants-few _ _ o, terms-few _ _ o)
 
+numbers-requires : tie.Need-numbers-requires
+numbers-requires c κs = search needs
+
 slice-aggregate-prepare : tie.Need-slice-aggregate-prepare
 slice-aggregate-prepare c = search needs
 
@@ -28,7 +31,7 @@ slice-aggregate-prepare-3 : tie.Need-slice-aggregate-prepare-3
 slice-aggregate-prepare-3 c = search needs
 
 prepare-requires : tie.Need-prepare-requires
-prepare-requires c κs = let b = c .before .before .before .before .before .before in (record { opened = entry b .pre .0; sized = sym (slice-aggregate-prepare-2 (c .before)); sized-witnesses = sym (slice-aggregate-prepare-3 c) }, start-numbers _ _ (b .start .ensures))
+prepare-requires c κs = let b = c .before .before .before .before .before in (record { opened = entry (b .before) .pre .0; sized = sym (slice-aggregate-prepare-2 (c .before)); sized-witnesses = sym (slice-aggregate-prepare-3 c) }, b .numbers .ensures)
 
 lowest-requires : tie.Need-lowest-requires
 lowest-requires c κs = omega (arith, opened-sizes _ _ (c .before .before .before .before .before .before .before .before .before .before .before .pre .0) .0)
@@ -47,10 +50,10 @@ slice-aggregate-work-4 c = sym (c .before .before .before .before .before .prepa
 
 work-requires : tie.Need-work-requires
 work-requires c κs =
-    let b = c .before .before .before .before .before .before .before .before .before .before .before .before .before .before in
-    let p = entry b .pre in (
-      record { tabled = record { opened = p .0; sized = sym (slice-aggregate-prepare-2 (c .before .before .before .before .before .before .before .before .before)); sized-witnesses = sym (slice-aggregate-prepare-3 (c .before .before .before .before .before .before .before .before)) }; numbers-are = start-numbers _ _ (b .start .ensures); words-are = c .before .before .before .before .before .before .before .prepare .ensures },
-      all-ready (p .0) (start-sound _ _ (b .start .ensures)) (c .before .before .before .before .before .before .lowest .ensures),
+    let b = c .before .before .before .before .before .before .before .before .before .before .before .before .before in
+    let p = entry (b .before) .pre in (
+      record { tabled = record { opened = p .0; sized = sym (slice-aggregate-prepare-2 (c .before .before .before .before .before .before .before .before .before)); sized-witnesses = sym (slice-aggregate-prepare-3 (c .before .before .before .before .before .before .before .before)) }; numbers-are = b .numbers .ensures; words-are = c .before .before .before .before .before .before .before .prepare .ensures },
+      all-ready (p .0) (start-sound _ _ (b .before .start .ensures)) (c .before .before .before .before .before .before .lowest .ensures),
       record { on = refl; fine = begun-fine _ _ _ _ (p .1) (p .2); no-terms = λ _. refl },
     )
 
@@ -71,6 +74,7 @@ solve-spec =
     tie.close
     (tie.spec
     start-requires
+    numbers-requires
     slice-aggregate-prepare
     slice-aggregate-prepare-2
     slice-aggregate-prepare-3

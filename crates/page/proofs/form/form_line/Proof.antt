@@ -5,9 +5,9 @@ use Prim.Native.Nat.{_+_, _*_, _-_, _≤_}
 use native.Mathlib.Omega.{arith}
 use lib.ListN.{length}
 use Rattle.calculus.specs.Problem.{setCount}
-use Rattle.page.specs.Writing.{Wrote, problemIn}
-use Rattle.page.proofs.Texts.{wrote-length, wrote-more}
-use Rattle.page.proofs.Members.{wrote-nothing}
+use Rattle.text.specs.Text.{Wrote}
+use Rattle.page.specs.Writing.{problemIn}
+use Rattle.text.proofs.Texts.{wrote-nothing, wrote-length, wrote-more}
 use Rattle.page.proofs.Values.{known}
 use Rattle.page.proofs.Items.{itemsText, no-items, all-items, item-step}
 use Rattle.page.proofs.form.form_line.Statement.{statement}

@@ -1,7 +1,7 @@
 -- `item` meets its contract: the letter and an equals sign, then a variable's number or a set's members, each right after what was written.
 use mathlib.Core.Path.{sym}
 use native.Mathlib.Omega.{arith}
-use Rattle.page.proofs.Texts.{wrote-length, wrote-more}
+use Rattle.text.proofs.Texts.{wrote-length, wrote-more}
 use Rattle.page.proofs.Values.{known}
 use Rattle.page.proofs.Items.{variable-there, variable-is, set-there, set-is}
 use borrow.Author.Needs.{needs}

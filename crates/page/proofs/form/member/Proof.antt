@@ -2,9 +2,9 @@
 use mathlib.Core.Path.{sym, _∙_}
 use native.Mathlib.Omega.{arith}
 use borrow.Author.Tests.{not-true, not-false}
-use Rattle.page.proofs.Texts.{wrote-more}
-use Rattle.page.proofs.Members.{wrote-nothing, no-member, a-member}
+use Rattle.page.proofs.Members.{no-member, a-member}
 use Rattle.page.proofs.Values.{term-there}
+use Rattle.text.proofs.Texts.{wrote-nothing, wrote-more}
 use borrow.Author.Needs.{needs}
 use Rattle.page.proofs.form.member.Statement.{statement}
 use Rattle.page.proofs.form.member.Tie as tie

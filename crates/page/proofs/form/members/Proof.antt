@@ -5,9 +5,10 @@ use Prim.Native.Nat.{_+_, _*_, _-_, _≤_}
 use native.Mathlib.Omega.{arith}
 use lib.ListN.{length}
 use Rattle.calculus.specs.Problem.{termCount}
-use Rattle.page.specs.Writing.{Wrote, problemIn}
-use Rattle.page.proofs.Texts.{wrote-length, wrote-more}
-use Rattle.page.proofs.Members.{wrote-nothing, membersText, no-members, all-members, member-step}
+use Rattle.text.specs.Text.{Wrote}
+use Rattle.page.specs.Writing.{problemIn}
+use Rattle.text.proofs.Texts.{wrote-nothing, wrote-length, wrote-more}
+use Rattle.page.proofs.Members.{membersText, no-members, all-members, member-step}
 use Rattle.page.proofs.Values.{known}
 use Rattle.page.proofs.form.members.Statement.{statement}
 use Rattle.page.proofs.form.members.Tie as tie
