@@ -3,11 +3,10 @@ use mathlib.Core.Path.{_≡_, refl, sym, _∙_, ap, subst}
 use mathlib.Core.Logic.{_↔_}
 use mathlib.Core.Bool.{Bool, true, false, _&&_}
 use mathlib.Core.Option.{Option, none, some}
-use mathlib.Core.List.{List, [], _∷_, map}
-use Prim.Native.Nat.{ℕ, zero, suc, _+_, _*_, _<_, _≤_}
+use mathlib.Core.List.{List, [], map}
+use Prim.Native.Nat.{ℕ, _+_, _*_, _<_, _≤_}
 use native.Mathlib.Omega.{arith}
-use native.Mathlib.Nat.{le-of-suc-le-suc}
-use lib.ListN.{length, getD}
+use lib.ListN.{getD}
 use lib.Dec.{eqb}
 use lib.IntN.{ℤ, pos}
 use borrow.Author.Tests.{eqb-true, eq-eqb}
@@ -18,12 +17,7 @@ use Rattle.calculus.specs.Problem.{Problem, constantCount, termCount, co
 use Rattle.calculus.specs.Forms.{recordRoot, valueBy, classValue, modelNumber, model}
 use Rattle.calculus.specs.Demands.{Shape, Valued}
 use Rattle.calculus.proofs.Bools.{and-l, and-r, and-i, clash, first-none, first-some}
-use Rattle.calculus.proofs.Sequences.{terms-each, terms-at, keep-each, keep-at, from-image, image-of}
-
-pub any-default : (l : List ℕ) (i d e : ℕ) → i < length l → getD l i d ≡ getD l i e
-any-default [] i d e q = absurd (omega arith)
-any-default (x ∷ xs) zero d e q = refl
-any-default (x ∷ xs) (suc i) d e q = any-default xs i d e (le-of-suc-le-suc q)
+use Rattle.calculus.proofs.Sequences.{terms-each, terms-at, keep-each, keep-at, from-image, image-of, any-default}
 
 module _ (prob : Problem) (acc : Valid prob) (r : List ℕ) (s : Shape prob r) where
   abbrev K : ℕ

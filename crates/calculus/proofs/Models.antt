@@ -26,13 +26,13 @@ use Rattle.calculus.specs.Forms.{recordFrom, recordOf, listedForms, Agre
 use Rattle.calculus.specs.Reading.{parsed, read}
 use Rattle.calculus.specs.Calls.{Verdict, FORMS, FALSE, ended, verdictOf, over, call}
 use Rattle.calculus.specs.Demands.{Shape, Valued, Models, Verdicts}
-use Rattle.calculus.proofs.Bools.{and-i, clash, Each-app, Each-imp, Each-zip, Each-map}
+use Rattle.calculus.proofs.Bools.{and-i, clash, Each-app, Each-imp, Each-zip, Each-map, Each-take}
 use Rattle.calculus.proofs.Walk.{walk-root}
-use Rattle.calculus.proofs.Asserting.{WellFormed, below, still, Ranged}
+use Rattle.calculus.proofs.Asserting.{WellFormed, below, still, Ranged, root-in}
 use Rattle.calculus.proofs.MaskBounds.{Small, assert-small, start-small}
 use Rattle.calculus.proofs.Measure.{measure}
 use Rattle.calculus.proofs.Stepping.{step-fit, step-keeps}
-use Rattle.calculus.proofs.Sequences.{terms-each}
+use Rattle.calculus.proofs.Sequences.{terms-each, keep-keep}
 use Rattle.calculus.proofs.ModelValues.{valued}
 use Rattle.calculus.proofs.LogLaws.{Full}
 use Rattle.calculus.proofs.LogEvents.{log-each, OfForm, forms-each}
@@ -106,19 +106,6 @@ module _ (n : ℕ) (k : List Term) (m : ℕ) (b : Branch) (F : WellFormed n k b)
       go (yes l) = root-default n 0 t t l ∙ ap (rootAt b) (omega arith)
       go (no l) = List·getD-eq-default r t {n = 3 * t} (omega (arith, record-length b n 0)) ∙ sym (past t (omega arith))
 
-  root-under : (t : ℕ) → t < n → rootAt b t < n
-  root-under t l = omega (arith, below n k b F t)
-
-module _ {X : Type 0} (p q s : X → Bool) where
-  keep-keep : (xs : List X) → Each (λ x. s x ≡ (p x && q x)) xs → keep s xs ≡ keep q (keep p xs)
-  keep-keep [] e = refl
-  keep-keep (x ∷ xs) e = go (p x) (q x) refl refl (keep-keep xs (e .1))
-    where
-      go : (a c : Bool) → p x ≡ a → q x ≡ c → keep s xs ≡ keep q (keep p xs) → keep s (x ∷ xs) ≡ keep q (keep p (x ∷ xs))
-      go true true u v ih = rw (e .0, u, v, ih)
-      go true false u v ih = rw (e .0, u, v, ih)
-      go false c u v ih = rw (e .0, u, ih)
-
 -- two functions that agree on what passes a test
 map-keep : {X : Type 0} (f g : X → ℤ) (p q : X → Bool) (xs : List X) → ((x : X) → p x ≡ true → f x ≡ g x) → map f (keep q (keep p xs)) ≡ map g (keep q (keep p xs))
 map-keep f g p q [] h = refl
@@ -173,7 +160,7 @@ module _ (prob : Problem) (acc : Valid prob) (b : Branch) (F : Full (termCount p
       let hd = at-root n k m b (F .0) in
       let hi = at-in n k m b (F .0) in
       let ho = at-out n k m b (F .0) in
-      let un = root-under n k m b (F .0) in
+      let un = root-in n k m b (F .0) in
       record {
         long = record-length b n 0;
         lowest = λ t u lt lu e. omega (arith, e, hd u lu, below n k b (F .0) u);
@@ -186,10 +173,6 @@ module _ (prob : Problem) (acc : Valid prob) (b : Branch) (F : Full (termCount p
         masks = λ t l. (rw (hi t l) (small .insides (rootAt b t)), rw (ho t l) (small .outsides (rootAt b t)));
         clear = λ t A l p q. false≢true (sym (F .0 .clean (rootAt b t) (setVar A)) ∙ and-i (ap (λ (x : ℕ). bit x A) (sym (hi t l)) ∙ p) (ap (λ (x : ℕ). bit x A) (sym (ho t l)) ∙ q));
       }
-
-  -- what is asked of a listed record
-  abbrev Model : List ℕ → Type 0
-  Model r = Satisfies prob (model prob r) × Agrees (termCount prob) (values prob (model prob r) (modelNumber prob r)) r × Shape prob r × Valued prob r
 
   model-true : Satisfies prob (model prob B) × Agrees (termCount prob) (values prob (model prob B) (modelNumber prob B)) B × Shape prob B × Valued prob B
   model-true =
@@ -218,11 +201,6 @@ module _ (n : ℕ) where
   lists (stepped r ∷ es) zero q = refl
   lists (stepped r ∷ es) (suc l) q = lists es l q
 
-each-take : (P : Branch → Type 0) (c : ℕ) (bs : List Branch) → Each P bs → Each P (take c bs)
-each-take P zero bs e = tt
-each-take P (suc c) [] e = tt
-each-take P (suc c) (b ∷ bs) e = (e .0, each-take P c bs (e .1))
-
 pub models : Models
 unfolding run
 models bytes budget forms trace prob e v n c a =
@@ -234,7 +212,7 @@ models bytes budget forms trace prob e v n c a =
     = rw (w .forms-are, sym (w .count-is)) (listed-app (3 * termCount prob) (s .forms) (s .records) (drop (length (s .records)) forms) (records-long (termCount prob) L budget (length forms)) ∙ lists (termCount prob) L budget (length forms)) in
     subst (Each Fine) (sym z)
     (Each-map Fine (recordOf (termCount prob)) (take (s .forms) (formsOf L))
-    (each-take (λ b. Fine (recordOf (termCount prob) b)) (s .forms) (formsOf L)
+    (Each-take (λ b. Fine (recordOf (termCount prob) b)) (s .forms) (formsOf L)
     (Each-zip (Full (termCount prob) (constantTerms prob) (setCount prob) (prob .constraints) (constraints-in prob acc)) (Small (setCount prob)) (λ b. Fine (recordOf (termCount prob) b)) (formsOf L) (λ b F m. model-true prob acc b F m) (forms-full prob acc) (forms-small prob acc))))
   where
     Fine : List ℕ → Type 0

@@ -17,7 +17,7 @@ use Rattle.calculus.proofs.Words.{words-length}
 use Rattle.calculus.proofs.Parsers.{one, counted, given, answered, then}
 use Rattle.calculus.proofs.Sections.{First}
 use Rattle.calculus.proofs.ReadValid.{first-question, read-first}
-use Rattle.calculus.proofs.ModelValues.{any-default}
+use Rattle.calculus.proofs.Sequences.{any-default}
 use Rattle.slices.specs.Bytes.{bytesAt}
 use Rattle.problem.specs.declared.Table.{Table}
 use Rattle.problem.specs.Table.{problemTable, Opened, constantOf, valuesOf}
