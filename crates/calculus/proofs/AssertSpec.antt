@@ -11,7 +11,7 @@ use lib.ListN.{length}
 use lib.Dec.{eqb, ltb}
 use borrow.Author.Tests.{eqb-true, eq-eqb, ltb-true, lt-ltb}
 use Rattle.calculus.specs.Terms.{Term, SetVar, term}
-use Rattle.calculus.proofs.AtNumber.{insideAt, outsideAt, addIn, addOut, mergeAt, tornAt, ownsAt, mergeRootsAt, set-eqb, eqb-set}
+use Rattle.calculus.proofs.AtNumber.{insideAt, outsideAt, addIn, addOut, mergeAt, tornAt, ownsAt, mergeRootsAt, set-eqb, eqb-set, same-index}
 use Rattle.calculus.specs.Branch.{Branch, start, rootAt, inside, outside, Fact, In, Out, Same, known, addInside, addOutside, merge, torn, owns, conflictIf, mergeRoots, assert}
 use Rattle.calculus.specs.Order.{KnownIn, KnownOut, OneClass, Then, Conflicts, Ranged, Reached, begun, asserted}
 use Rattle.calculus.specs.Demands.{Asserts}
@@ -22,9 +22,6 @@ use Rattle.calculus.proofs.Walk.{moved, moved-hi, moved-other}
 use Rattle.calculus.proofs.Asserting.{WellFormed, owned, owning, inside-addInside, outside-addInside, root-addInside, inside-addOutside, outside-addOutside, root-addOutside, inside-merge, outside-merge, below, still, conflictIf-some, conflictIf-none, Merges, already, upper, lower, merges, torn-some, torn-none, root-in, moves, root-in-insides, root-in-outsides}
 use Rattle.calculus.proofs.Keeping.{assert-fit}
 use Rattle.calculus.proofs.Start.{start-fit}
-
-same-index : {t u : Term} → t .index ≡ u .index → t ≡ u
-same-index p = λ i. record { index = p i }
 
 pub reached-fit : (n : ℕ) (k : List Term) (m : ℕ) (b : Branch) → Reached n k m b → WellFormed n k b
 reached-fit n k m b begun = start-fit n k

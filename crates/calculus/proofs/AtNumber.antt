@@ -36,8 +36,11 @@ mergeRootsAt k b lo hi = mergeRoots k b (term lo) (term hi)
 pub set-eqb : (A B : SetVar) → eqb (A .index) (B .index) ≡ true → A ≡ B
 set-eqb A B e = let p : A .index ≡ B .index = eqb-true (A .index) (B .index) e in λ i. record { index = p i }
 
+pub same-index : {t u : Term} → t .index ≡ u .index → t ≡ u
+same-index p = λ i. record { index = p i }
+
 pub term-eqb : (t u : Term) → eqb (t .index) (u .index) ≡ true → t ≡ u
-term-eqb t u e = let p : t .index ≡ u .index = eqb-true (t .index) (u .index) e in λ i. record { index = p i }
+term-eqb t u e = same-index (eqb-true (t .index) (u .index) e)
 
 pub eqb-set : (A B : SetVar) → A ≡ B → eqb (A .index) (B .index) ≡ true
 eqb-set A B e = eq-eqb (A .index) (B .index) (ap (λ (x : SetVar). x .index) e)

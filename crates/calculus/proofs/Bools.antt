@@ -5,6 +5,9 @@ use mathlib.Core.Bool.{Bool, true, false, _&&_, _||_, not, cond, true≢false, f
 use mathlib.Core.Option.{Option, none, some}
 use mathlib.Core.List.{List, [], _∷_, _++_, map}
 use Prim.Native.Nat.{ℕ, zero, suc, _+_}
+use lib.ListN.{take}
+use lib.Dec.{eqb}
+use borrow.Author.Tests.{eqb-true, eq-eqb}
 use Rattle.calculus.specs.Lists.{imp, all, any, first, keep, Each, Some, here, there, gather, picked}
 
 pub and-l : (a b : Bool) → (a && b) ≡ true → a ≡ true
@@ -67,6 +70,9 @@ same-test true b f g = sym (f refl)
 same-test false true f g = g refl
 same-test false false f g = refl
 
+pub eqb-flip : (i j : ℕ) → eqb i j ≡ eqb j i
+eqb-flip i j = same-test (eqb i j) (eqb j i) (λ e. eq-eqb j i (sym (eqb-true i j e))) (λ e. eq-eqb i j (sym (eqb-true j i e)))
+
 -- a test of every Boolean
 abbrev pub every : (Bool → Bool) → Bool
 every p = p false && p true
@@ -114,6 +120,11 @@ module _ {A : Type 0} (P : A → Type 0) where
   pub Each-right : (xs ys : List A) → Each P (xs ++ ys) → Each P ys
   Each-right [] ys e = e
   Each-right (x ∷ xs) ys e = Each-right xs ys (e .1)
+
+  pub Each-take : (n : ℕ) (xs : List A) → Each P xs → Each P (take n xs)
+  Each-take zero xs e = tt
+  Each-take (suc n) [] e = tt
+  Each-take (suc n) (x ∷ xs) e = (e .0, Each-take n xs (e .1))
 
   pub Each-all : ((x : A) → P x) → (xs : List A) → Each P xs
   Each-all f [] = tt

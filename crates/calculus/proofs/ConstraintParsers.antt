@@ -18,6 +18,7 @@ use Rattle.calculus.specs.Reading.{parsed, gapless, Parser, refuse, two,
 use Rattle.calculus.proofs.Bools.{and-l, and-r, and-i, each-all, all-each, Each-imp, Each-map}
 use Rattle.calculus.proofs.Gapless.{gapless-fills, fills-gapless}
 use Rattle.calculus.proofs.Parsers.{Recognizes, pair, OneByte, one, Counted, counted, Given, given, Asked, answered, Then, then, no-answer, byte-reads, bytes-read, gives, asks, same-writing, and-then}
+use Rattle.calculus.proofs.Sequences.{index-term, term-index}
 
 -- how the bytes after the kind say the constraint
 abbrev Form : Type 1
@@ -49,14 +50,6 @@ module _ (cs : List ℤ) (N S : ℕ) where
   interval-reads = and-then _ byte-reads (λ A. and-then _ byte-reads (λ i. and-then _ byte-reads (λ j. asks 8 _ (omega arith, omega arith) (λ _. asks 9 _ (omega arith, omega arith) (λ _. gives _)))))
 
 -- ---- the kinds
-
-index-term : (xs : List ℕ) → map (λ (e : Term). e .index) (map term xs) ≡ xs
-index-term [] = refl
-index-term (x ∷ xs) = ap (λ (l : List ℕ). x ∷ l) (index-term xs)
-
-term-index : (es : List Term) → map term (map (λ (e : Term). e .index) es) ≡ es
-term-index [] = refl
-term-index (e ∷ es) = ap (λ (l : List Term). e ∷ l) (term-index es)
 
 abbrev Never : Form
 Never l v = ⊥

@@ -1,7 +1,7 @@
 -- Asserting a fact keeps a branch sound.
 use mathlib.Core.Path.{_≡_, refl, sym, _∙_, ap, ap₂, subst}
 use mathlib.Core.Logic.{_⊎_, inl, inr, _↔_, _≢_}
-use mathlib.Core.Bool.{Bool, true, false, _&&_, _||_, not, cond, true≢false, false≢true}
+use mathlib.Core.Bool.{Bool, true, false, _&&_, _||_, not, cond, true≢false, false≢true, or-false, and-comm}
 use mathlib.Core.Option.{Option, none, some}
 use mathlib.Core.List.{List, [], _∷_, _++_, map}
 use Prim.Native.Nat.{ℕ, zero, suc, _+_, _^_, _<_, _≤_, min, max, zero-le, suc-le-suc}
@@ -28,16 +28,6 @@ one-more true o p e f = e
 one-more false o true e f = f refl
 one-more false o false e f = refl
 
-and-flip : (a b : Bool) → (a && b) ≡ (b && a)
-and-flip true true = refl
-and-flip true false = refl
-and-flip false true = refl
-and-flip false false = refl
-
-or-no : (a b : Bool) → b ≡ false → (a || b) ≡ a
-or-no true b e = refl
-or-no false b e = e
-
 module _ (n : ℕ) (k : List Term) (b : Branch) (F : WellFormed n k b) where
   addInside-fit : (h : ℕ) (A : SetVar) → h < n → outsideAt b h A ≡ false → WellFormed n k (addIn b h A)
   unfolding addInside
@@ -60,8 +50,8 @@ module _ (n : ℕ) (k : List Term) (b : Branch) (F : WellFormed n k b) where
     sized-out = length-set (b .outsides) h (bitOr (getD (b .outsides) h 0) (2 ^ A .index)) ∙ F .sized-out;
     falls = F .falls;
     lone = λ i j p q e. F .lone i j p q (sym (root-addOutside b h A i) ∙ e ∙ root-addOutside b h A j);
-    clean = λ j B. rw (inside-addOutside b h A j B, outside-addOutside b h A j B (rw (F .sized-out) l), and-flip (insideAt b j B))
-        (one-more (outsideAt b j B) (insideAt b j B) (eqb j h && eqb (B .index) (A .index)) (and-flip (outsideAt b j B) (insideAt b j B) ∙ F .clean j B)
+    clean = λ j B. rw (inside-addOutside b h A j B, outside-addOutside b h A j B (rw (F .sized-out) l), and-comm (insideAt b j B))
+        (one-more (outsideAt b j B) (insideAt b j B) (eqb j h && eqb (B .index) (A .index)) (and-comm (outsideAt b j B) (insideAt b j B) ∙ F .clean j B)
         (λ p. rw (eqb-true j h (and-l (eqb j h) (eqb (B .index) (A .index)) p), set-eqb B A (and-r (eqb j h) (eqb (B .index) (A .index)) p)) e));
   }
 
@@ -74,7 +64,7 @@ module _ (n : ℕ) (k : List Term) (b : Branch) (F : WellFormed n k b) where
       where
         go : Dec (j ≡ lo) → (insideAt (mergeAt b lo hi) j B && outsideAt (mergeAt b lo hi) j B) ≡ false
         go (yes e) = rw e (torn-none (mergeAt b lo hi) lo nt B)
-        go (no e) = rw (inside-merge b lo hi j B (rw (F .sized-in) (omega arith)), outside-merge b lo hi j B (rw (F .sized-out) (omega arith)), ne-eqb j lo e, or-no (insideAt b j B) false refl, or-no (outsideAt b j B) false refl) (F .clean j B)
+        go (no e) = rw (inside-merge b lo hi j B (rw (F .sized-in) (omega arith)), outside-merge b lo hi j B (rw (F .sized-out) (omega arith)), ne-eqb j lo e, or-false (insideAt b j B), or-false (outsideAt b j B)) (F .clean j B)
 
     -- not both classes hold a constant
     not-both : (i j : ℕ) → Is k i → Is k j → rootAt b i ≡ hi → rootAt b j ≡ lo → ⊥

@@ -61,4 +61,3 @@ pub mod RecordLaws
 pub mod Reaching
 pub mod CallQuestions
 pub mod Proved
-pub mod Bounds

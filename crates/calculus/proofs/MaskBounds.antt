@@ -1,9 +1,9 @@
 -- Masks stay below 2 ^ m, m the count of sets: they fit their bytes.
-use mathlib.Core.Path.{_≡_, refl, sym, _∙_, ap, subst}
+use mathlib.Core.Path.{_≡_, sym, _∙_, ap, subst}
 use mathlib.Core.Logic.{_⊎_, inl, inr, _≢_}
 use mathlib.Core.Option.{Option, none, some}
 use mathlib.Core.List.{List, [], _∷_}
-use Prim.Native.Nat.{ℕ, zero, suc, _+_, _^_, _<_, _≤_}
+use Prim.Native.Nat.{ℕ, _+_, _^_, _<_, _≤_}
 use native.Mathlib.Omega.{arith}
 use native.Mathlib.Decide.{ℕ-discrete, decLt}
 use mathlib.Core.Bool.{_&&_, _||_}
@@ -16,6 +16,7 @@ use Rattle.calculus.specs.Terms.{Term, SetVar}
 use Rattle.calculus.proofs.AtNumber.{addIn, addOut, mergeAt, tornAt, ownsAt}
 use Rattle.calculus.specs.Branch.{Branch, start, rootAt, Fact, In, Out, Same, known, addInside, addOutside, merge, torn, owns, conflictIf, mergeRoots, assert}
 use Rattle.calculus.proofs.Asserting.{Merges, already, upper, lower, merges, conflictIf-some, Ranged}
+use Rattle.calculus.proofs.Sequences.{zeros}
 
 abbrev Below : ℕ → List ℕ → Type 0
 Below m l = (h : ℕ) → getD l h 0 < 2 ^ m
@@ -61,12 +62,7 @@ module _ (m : ℕ) (b : Branch) (s : Small m b) where
 
 pub start-small : (n m : ℕ) → Small m (start n)
 unfolding start
-start-small n m = record { insides = zeros; outsides = zeros }
+start-small n m = record { insides = below; outsides = below }
   where
-    zeros : Below m (replicate n 0)
-    zeros h = subst (λ (x : ℕ). x < 2 ^ m) (sym (go n h)) (pow-pos m)
-      where
-        go : (n h : ℕ) → _≡_ {A = ℕ} (getD (replicate n 0) h 0) 0
-        go zero h = refl
-        go (suc n) zero = refl
-        go (suc n) (suc h) = go n h
+    below : Below m (replicate n 0)
+    below h = subst (λ (x : ℕ). x < 2 ^ m) (sym (zeros n h)) (pow-pos m)

@@ -1,7 +1,7 @@
 -- Bits of masks, and a mask in a list of masks.
 use mathlib.Core.Path.{_≡_, refl, sym, _∙_, ap, ap₂, subst, fun-ext}
 use mathlib.Core.Logic.{_⊎_, inl, inr, _≢_}
-use mathlib.Core.Bool.{Bool, true, false, _&&_, _||_, not, cond, true≢false, false≢true}
+use mathlib.Core.Bool.{true, false, _&&_, _||_, not, cond, true≢false, false≢true, or-false}
 use mathlib.Core.List.{List, [], _∷_, _++_, map}
 use Prim.Native.Nat.{ℕ, zero, suc, _+_, _*_, _/_, _%_, _^_, _<_, _≤_, min, max}
 use native.Mathlib.Omega.{arith}
@@ -16,15 +16,15 @@ use borrow.Author.Tests.{eqb-true, eqb-false, eq-eqb, ne-eqb}
 use Rattle.calculus.specs.Lists.{bit}
 use Rattle.calculus.proofs.Bools.{clash}
 
-low : (a : ℕ) → (a % 2 ≡ 0) ⊎ (a % 2 ≡ 1)
-low a = go (ℕ-discrete (a % 2) 0)
+pub odd-even : (a : ℕ) → (a % 2 ≡ 0) ⊎ (a % 2 ≡ 1)
+odd-even a = go (ℕ-discrete (a % 2) 0)
   where
     go : Dec (a % 2 ≡ 0) → (a % 2 ≡ 0) ⊎ (a % 2 ≡ 1)
     go (yes e) = inl e
     go (no n) = inr (omega arith)
 
 low-max : (a b : ℕ) → eqb (max (a % 2) (b % 2)) 1 ≡ (eqb (a % 2) 1 || eqb (b % 2) 1)
-low-max a b = go (low a) (low b)
+low-max a b = go (odd-even a) (odd-even b)
   where
     go : (a % 2 ≡ 0) ⊎ (a % 2 ≡ 1) → (b % 2 ≡ 0) ⊎ (b % 2 ≡ 1) → eqb (max (a % 2) (b % 2)) 1 ≡ (eqb (a % 2) 1 || eqb (b % 2) 1)
     go (inl p) (inl q) = rw (p, q)
@@ -33,7 +33,7 @@ low-max a b = go (low a) (low b)
     go (inr p) (inr q) = rw (p, q)
 
 low-min : (a b : ℕ) → eqb (min (a % 2) (b % 2)) 1 ≡ (eqb (a % 2) 1 && eqb (b % 2) 1)
-low-min a b = go (low a) (low b)
+low-min a b = go (odd-even a) (odd-even b)
   where
     go : (a % 2 ≡ 0) ⊎ (a % 2 ≡ 1) → (b % 2 ≡ 0) ⊎ (b % 2 ≡ 1) → eqb (min (a % 2) (b % 2)) 1 ≡ (eqb (a % 2) 1 && eqb (b % 2) 1)
     go (inl p) (inl q) = rw (p, q)
@@ -65,7 +65,7 @@ some-bit = bin-ind (λ m. (m ≡ 0) ⊎ ((s : ℕ) × (bit m s ≡ true))) (inl 
   where
     step : (m : ℕ) → (m / 2 ≡ 0) ⊎ ((s : ℕ) × (bit (m / 2) s ≡ true)) → (m ≡ 0) ⊎ ((s : ℕ) × (bit m s ≡ true))
     step m (inr h) = inr (suc (h .0), h .1)
-    step m (inl e) = go (low m)
+    step m (inl e) = go (odd-even m)
       where
         go : (m % 2 ≡ 0) ⊎ (m % 2 ≡ 1) → (m ≡ 0) ⊎ ((s : ℕ) × (bit m s ≡ true))
         go (inl p) = inl (omega arith)
@@ -76,10 +76,6 @@ pub add-at : (l : List ℕ) (i m j s : ℕ) → i < length l
     → bit (getD (set l i (bitOr (getD l i 0) m)) j 0) s ≡ (bit (getD l j 0) s || (eqb j i && bit m s))
 add-at l i m j s h = go (ℕ-discrete j i)
   where
-    or-no : (a : Bool) → a ≡ (a || false)
-    or-no true = refl
-    or-no false = refl
-
     go : Dec (j ≡ i) → bit (getD (set l i (bitOr (getD l i 0) m)) j 0) s ≡ (bit (getD l j 0) s || (eqb j i && bit m s))
     go (yes e) = rw (e, getD-set-same l i (bitOr (getD l i 0) m) 0 h, eq-eqb i i refl) (bit-or (getD l i 0) m s)
-    go (no n) = rw (getD-set-other l i j (bitOr (getD l i 0) m) 0 n, ne-eqb j i n) (or-no (bit (getD l j 0) s))
+    go (no n) = rw (getD-set-other l i j (bitOr (getD l i 0) m) 0 n, ne-eqb j i n) (sym (or-false (bit (getD l j 0) s)))

@@ -25,13 +25,13 @@ use Rattle.calculus.specs.Forms.{recordOf, recordLength, rootIn, rootIns
 use Rattle.calculus.specs.Reading.{parsed, read}
 use Rattle.calculus.specs.Calls.{Verdict, FORMS, FALSE, ended, verdictOf, over, call}
 use Rattle.calculus.specs.Demands.{Shape, Valued, Models, Verdicts}
-use Rattle.calculus.proofs.Bools.{and-i, clash, Each-app, Each-imp, Each-zip, Each-map}
+use Rattle.calculus.proofs.Bools.{and-i, clash, Each-app, Each-imp, Each-zip, Each-map, Each-take}
 use Rattle.calculus.proofs.Walk.{walk-root}
-use Rattle.calculus.proofs.Asserting.{WellFormed, below, still, Ranged}
+use Rattle.calculus.proofs.Asserting.{WellFormed, below, still, Ranged, root-in}
 use Rattle.calculus.proofs.MaskBounds.{Small, assert-small, start-small}
 use Rattle.calculus.proofs.Measure.{measure}
 use Rattle.calculus.proofs.Stepping.{step-fit, step-keeps}
-use Rattle.calculus.proofs.Sequences.{terms-each}
+use Rattle.calculus.proofs.Sequences.{terms-each, keep-keep}
 use Rattle.calculus.proofs.ModelValues.{valued}
 use Rattle.calculus.proofs.LogLaws.{Full}
 use Rattle.calculus.proofs.LogEvents.{log-each, OfForm, forms-each}
@@ -86,16 +86,6 @@ root-anywhere n k b F t = go (decLt t n)
     go : Dec (t < n) → rootIn (recordOf n b) t ≡ rootAt b t
     go (yes l) = root-shown b n t l
     go (no l) = root-past n (recordOf n b) (record-length b n) t (omega arith) ∙ sym (walk-root (b .parents) (F .falls) t (List·getD-eq-default (b .parents) t {n = t} (omega (arith, F .sized))))
-
-module _ {X : Type 0} (p q s : X → Bool) where
-  keep-keep : (xs : List X) → Each (λ x. s x ≡ (p x && q x)) xs → keep s xs ≡ keep q (keep p xs)
-  keep-keep [] e = refl
-  keep-keep (x ∷ xs) e = go (p x) (q x) refl refl (keep-keep xs (e .1))
-    where
-      go : (a c : Bool) → p x ≡ a → q x ≡ c → keep s xs ≡ keep q (keep p xs) → keep s (x ∷ xs) ≡ keep q (keep p (x ∷ xs))
-      go true true u v ih = rw (e .0, u, v, ih)
-      go true false u v ih = rw (e .0, u, v, ih)
-      go false c u v ih = rw (e .0, u, ih)
 
 -- two functions that agree on what passes a test
 map-keep : {X : Type 0} (f g : X → ℤ) (p q : X → Bool) (xs : List X) → ((x : X) → p x ≡ true → f x ≡ g x) → map f (keep q (keep p xs)) ≡ map g (keep q (keep p xs))
@@ -175,11 +165,6 @@ module _ (prob : Problem) (acc : Valid prob) (b : Branch) (F : Full (termCount p
 
 -- ---- what a run lists, however it ended
 
-each-take : (P : Branch → Type 0) (c : ℕ) (bs : List Branch) → Each P bs → Each P (take c bs)
-each-take P zero bs e = tt
-each-take P (suc c) [] e = tt
-each-take P (suc c) (b ∷ bs) e = (e .0, each-take P c bs (e .1))
-
 pub models : Models
 unfolding run
 models bytes budget forms trace prob e v n c a =
@@ -191,7 +176,7 @@ models bytes budget forms trace prob e v n c a =
     = rw (w .forms-are, sym (w .count-is)) (listed-app (termCount prob) (s .forms) (s .records) (drop (length (s .records)) forms) (records-long (termCount prob) L budget (length forms)) ∙ lists (termCount prob) L budget (length forms)) in
     subst (Each (Modelled prob)) (sym z)
     (Each-map (Modelled prob) (recordOf (termCount prob)) (take (s .forms) (formsOf L))
-    (each-take (λ b. Modelled prob (recordOf (termCount prob) b)) (s .forms) (formsOf L)
+    (Each-take (λ b. Modelled prob (recordOf (termCount prob) b)) (s .forms) (formsOf L)
     (Each-zip (Full (termCount prob) (constantTerms prob) (setCount prob) (prob .constraints) (constraints-in prob acc)) (Small (setCount prob)) (λ b. Modelled prob (recordOf (termCount prob) b)) (formsOf L) (λ b F m. model-true prob acc b F m) (forms-full prob acc) (forms-small prob acc))))
 
 of-false : (e : R.End) (c : ℕ) → verdictOf e c ≡ FALSE → c ≡ 0

@@ -1,5 +1,5 @@
 -- The model of a listed record, written as bytes, is an assignment that the check answers HOLDS for.
-use mathlib.Core.Path.{_≡_, refl, sym, _∙_, ap, subst}
+use mathlib.Core.Path.{_≡_, refl, sym, _∙_, subst}
 use mathlib.Core.Logic.{_⊎_, inl, inr}
 use mathlib.Core.Bool.{Bool, true, false}
 use mathlib.Core.List.{List, [], _∷_, map}
@@ -7,7 +7,7 @@ use Prim.Native.Nat.{ℕ, zero, suc, _+_, _-_, _<_, _≤_, zero-le, suc-le-suc}
 use native.Mathlib.Omega.{arith}
 use native.Mathlib.Decide.{decLt}
 use native.Mathlib.Nat.{le-of-suc-le-suc}
-use lib.ListN.{length, getD, length-map}
+use lib.ListN.{length, getD}
 use lib.Dec.{eqb, leb→le, le→leb}
 use lib.IntN.{ℤ, pos, negsuc}
 use lib.Signed.{_≤ℤ_, _<ℤ_}
@@ -22,25 +22,13 @@ use Rattle.calculus.specs.Check.{assignmentOf}
 use Rattle.calculus.specs.Calls.{HOLDS, check, call}
 use Rattle.calculus.specs.Demands.{Shape, Valued, ModelsPass}
 use Rattle.calculus.proofs.Bools.{and-l, Each-app, Each-imp, Each-zip, Each-map, Each-gather}
-use Rattle.calculus.proofs.Sequences.{up-each, terms-each, keep-each, each-at}
-use Rattle.calculus.proofs.Start.{up-length}
+use Rattle.calculus.proofs.Sequences.{up-each, terms-each, keep-each, each-at, long, at}
 use Rattle.calculus.proofs.Words.{small-fits, within-fits16, encoded-bytes}
 use Rattle.calculus.proofs.ConstraintLaws.{InScope, holds-same}
 use Rattle.calculus.proofs.ReadAssignment.{reads-assignment}
 use Rattle.calculus.proofs.ReadValid.{read-valid}
 use Rattle.calculus.proofs.Models.{Modelled, models}
 use Rattle.calculus.proofs.Checking.{checks}
-
--- ---- a value for each number: how many, and the one at a place
-
-module _ {X : Type 0} (f : ℕ → X) where
-  pub long : (n : ℕ) → length (map f (upFrom 0 n)) ≡ n
-  long n = length-map (upFrom 0 n) f ∙ up-length 0 n
-
-  pub at : (s n i j : ℕ) (d : X) → i < n → j ≡ s + i → getD (map f (upFrom s n)) i d ≡ f j
-  at s zero i j d l e = absurd (omega arith)
-  at s (suc n) zero j d l e = ap f (omega arith)
-  at s (suc n) (suc i) j d l e = at (suc s) n i j d (omega arith) (omega arith)
 
 -- ---- the values that are kept, where they ascend
 

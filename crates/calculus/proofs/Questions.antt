@@ -20,7 +20,7 @@ use Rattle.calculus.specs.Encoding.{Bytes, twoBytes, encodeConstraint, F
 use Rattle.calculus.specs.Reading.{refused, words, ascending, inRange, letters, constraints, readConstraints, readSets, readVariables, readConstants, read}
 use Rattle.calculus.specs.Questions.{too-long, after-length, Missing, no-count, too-few, InRange, OfConstants, constants-missing, no-constants, after-constants, OfVariables, variables-missing, no-variables, after-variables, OfSets, sets-missing, no-sets, after-sets, OfConstraint, witnessCount, OfConstraints, count-missing, too-many, in-constraint, left-over, many-terms, FirstNo, Questions}
 use Rattle.calculus.proofs.Bools.{and-l, and-r, and-i, clash, Each-left}
-use Rattle.calculus.proofs.Sequences.{each-at, at-each}
+use Rattle.calculus.proofs.Sequences.{each-at, at-each, none-left}
 use Rattle.calculus.proofs.Words.{words-encoded, encoded-words, words-length, words-fit, encoded-length, range-fits16, ascending-rising, rising-ascending, range-is, is-range, letters-are, are-letters}
 use Rattle.calculus.proofs.Parsers.{OneByte, one, Counted, counted, byte-reads, bytes-read}
 use Rattle.calculus.proofs.ConstraintParsers.{WrittenConstraint, WrittenConstraints, constraint-reads, constraints-read}
@@ -95,10 +95,6 @@ FromVariables cs = OfVariables (λ ns. FromSets cs ns)
 abbrev FromConstants : Saying
 FromConstants = OfConstants (λ cs. FromVariables cs)
 
-empty : (bs : List ℕ) → eqb (length bs) 0 ≡ true → bs ≡ []
-empty [] e = refl
-empty (x ∷ bs) e = clash e (eqb·suc-zero (length bs))
-
 nonempty : (bs : List ℕ) → eqb (length bs) 0 ≡ false → 0 < length bs
 nonempty [] e = clash refl e
 nonempty (x ∷ bs) e = omega arith
@@ -135,7 +131,7 @@ module _ (cs : List ℤ) (up : Rising cs) (ns : List ℕ) where
         to bs n (later {v = v} (one {b = m}) (answer-no t)) = too-many m v (leb-false m mostConstraints t)
         to bs n (later (one {b = m}) (answer-yes t (now (among ls rest {n = k} l r h)))) = in-constraint m k ls rest (leb-true m mostConstraints t) l r h
         to bs n (later (one {b = m}) (answer-yes t (later {a = a} {u = u} {v = v} w (answer-no e)))) = over m a u v t w (nonempty v e)
-        to bs n (later (one {b = m}) (answer-yes t (later {a = a} {u = u} {v = v} w (answer-yes e (answer-no f))))) = many m a u v t w (empty v e) f
+        to bs n (later (one {b = m}) (answer-yes t (later {a = a} {u = u} {v = v} w (answer-yes e (answer-no f))))) = many m a u v t w (none-left v e) f
         to bs n (later (one {b = m}) (answer-yes t (later w (answer-yes e (answer-yes f h))))) = absurd h
 
         -- the constraints, and what is said after them

@@ -3,7 +3,6 @@ use mathlib.Core.Path.{_≡_, sym, _∙_}
 use mathlib.Core.List.{List}
 use Prim.Native.Nat.{ℕ}
 use borrow.Author.Tests.{eqb-true}
-use Rattle.calculus.specs.Terms.{Term}
 use Rattle.calculus.specs.Branch.{Branch, start, rootAt}
 use Rattle.calculus.specs.Problem.{Problem, termCount, setCount, constantTerms}
 use Rattle.calculus.specs.Reading.{parsed, read}
@@ -17,16 +16,14 @@ use Rattle.calculus.proofs.AssertSpec.{reached-fit}
 use Rattle.calculus.proofs.ReadValid.{read-valid}
 use Rattle.calculus.proofs.FirstPlace.{first-place}
 use Rattle.calculus.proofs.WorkOrder.{some-each}
-
-same-term : (t u : Term) → t .index ≡ u .index → t ≡ u
-same-term t u p = λ i. record { index = p i }
+use Rattle.calculus.proofs.AtNumber.{same-index}
 
 pub reaches : Reaches
 reaches = (
   (λ n t u A. (
     (λ p. clash p (start-inside n (rootAt (start n) (t .index)) A)),
     (λ p. clash p (start-outside n (rootAt (start n) (t .index)) A)),
-    (λ p. same-term t u (sym (start-root n (t .index)) ∙ eqb-true (rootAt (start n) (t .index)) (rootAt (start n) (u .index)) p ∙ start-root n (u .index))),
+    (λ p. same-index (sym (start-root n (t .index)) ∙ eqb-true (rootAt (start n) (t .index)) (rootAt (start n) (u .index)) p ∙ start-root n (u .index))),
   )),
   (λ bytes prob q d b p. go bytes prob q d b p),
 )

@@ -6,7 +6,7 @@ use Prim.Native.Nat.{ℕ, zero, suc, _*_, _<_}
 use native.Mathlib.Omega.{arith}
 use lib.ListN.{length, take, drop, length-append, take-append-drop}
 use lib.Seq.{length-take-le}
-use lib.Dec.{leb, eqb}
+use lib.Dec.{leb}
 use lib.IntN.{ℤ}
 use borrow.Author.Tests.{leb-true, le-leb, eqb-true, eq-eqb}
 use Rattle.calculus.specs.Lists.{Each, gather}
@@ -18,6 +18,7 @@ use Rattle.calculus.specs.Demands.{ReadsAssignment}
 use Rattle.calculus.proofs.Bools.{Each-left, Each-right}
 use Rattle.calculus.proofs.Words.{words-length, encoded-length, encoded-words, words-fit, words-front, words-rest, ascending-rising, rising-ascending}
 use Rattle.calculus.proofs.Parsing.{bind-parsed, parsed-bind, ask-parsed, parsed-ask, Refusals, parsed-refusals, refused-refusals, bind-refusals, ask-refusals}
+use Rattle.calculus.proofs.Sequences.{none-left}
 
 abbrev Is14 : ℕ → Type 0
 Is14 n = n ≡ 14
@@ -160,10 +161,6 @@ lists-refusals (suc s) bs =
     (bind-refusals Is14 _ _ (lists-refusals s (ns .1)) (λ ls. parsed-refusals Is14 _))))
 
 -- ---- all of it
-
-none-left : (bs : List ℕ) → eqb (length bs) 0 ≡ true → bs ≡ []
-none-left [] e = refl
-none-left (b ∷ bs) e = absurd (omega (arith, eqb-true (length (b ∷ bs)) 0 e))
 
 module _ (prob : Problem) where
   assignment-parsed : (bs : List ℕ) → Bytes bs → (g : Handed) → readAssignment prob bs ≡ parsed g → WrittenAssignment prob bs g

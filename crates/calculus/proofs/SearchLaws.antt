@@ -2,7 +2,7 @@
 use mathlib.Core.Path.{_≡_, refl, sym, _∙_, ap, subst}
 use mathlib.Core.Bool.{Bool, true, false}
 use mathlib.Core.Option.{Option, none, some}
-use mathlib.Core.List.{List, [], _∷_, _++_, map}
+use mathlib.Core.List.{List, [], _∷_, _++_, append-nil}
 use Prim.Native.Nat.{ℕ, zero, suc, _+_, _<_}
 use lib.ListN.{length, getD, drop}
 use Rattle.calculus.specs.Lists.{first, Each, gather}
@@ -12,6 +12,9 @@ module _ {X : Type 0} (p : X → Bool) where
   pub first-skip : (xs ys : List X) → Each (λ x. p x ≡ false) xs → first p (xs ++ ys) ≡ first p ys
   first-skip [] ys e = refl
   first-skip (x ∷ xs) ys e = rw (e .0, first) (first-skip xs ys (e .1))
+
+  pub none-found : (xs : List X) → Each (λ x. p x ≡ false) xs → first p xs ≡ none
+  none-found xs e = ap (first p) (sym (append-nil xs)) ∙ first-skip xs [] e
 
   pub first-stop : (x : X) (xs : List X) → p x ≡ true → first p (x ∷ xs) ≡ some x
   first-stop x xs e = rw (e, first)

@@ -1,5 +1,5 @@
 -- How many children a step has: distinct classes of n terms are at most n.
-use mathlib.Core.Path.{_≡_, refl, sym, _∙_, ap, subst}
+use mathlib.Core.Path.{_≡_, refl, sym, _∙_, subst}
 use mathlib.Core.Bool.{Bool, true, false, not, cond, false≢true, true≢false}
 use mathlib.Core.Option.{Option, none, some}
 use mathlib.Core.List.{List, [], _∷_, _++_, map}
@@ -13,7 +13,7 @@ use Rattle.calculus.specs.Terms.{Term}
 use Rattle.calculus.specs.Search.{distinct}
 use Rattle.calculus.proofs.Bools.{clash, Each-imp, not-t}
 use Rattle.calculus.proofs.AddingFacts.{Each-keep, Each-distinct}
-use Rattle.calculus.proofs.Sequences.{keep-each}
+use Rattle.calculus.proofs.Sequences.{keep-each, keep-all}
 
 abbrev other : ℕ → Term → Bool
 other a y = not (eqb (y .index) a)
@@ -22,10 +22,6 @@ other a y = not (eqb (y .index) a)
 abbrev AllDifferent : List Term → Type 0
 AllDifferent [] = Unit {0}
 AllDifferent (x ∷ xs) = Each (λ y. other (x .index) y ≡ true) xs × AllDifferent xs
-
-keep-all : (p : Term → Bool) (xs : List Term) → Each (λ x. p x ≡ true) xs → keep p xs ≡ xs
-keep-all p [] e = refl
-keep-all p (x ∷ xs) e = rw (e .0) (ap (λ (l : List Term). x ∷ l) (keep-all p xs (e .1)))
 
 keep-different : (p : Term → Bool) (xs : List Term) → AllDifferent xs → AllDifferent (keep p xs)
 keep-different p [] d = tt

@@ -3,11 +3,11 @@ use mathlib.Core.Path.{_≡_, refl, sym, _∙_, ap, ap₂, subst}
 use mathlib.Core.Logic.{_⊎_, inl, inr, _↔_, _≢_}
 use mathlib.Core.Bool.{Bool, true, false, _&&_, _||_, not, cond, true≢false, false≢true}
 use mathlib.Core.List.{List, [], _∷_, _++_, map}
-use Prim.Native.Nat.{ℕ, zero, suc, _+_, _*_, _<_, _≤_, zero-le, suc-le-suc}
+use Prim.Native.Nat.{ℕ, zero, suc, _*_, _<_, _≤_, zero-le, suc-le-suc}
 use native.Mathlib.Omega.{arith}
 use native.Mathlib.Decide.{decLt}
 use native.Mathlib.Nat.{le-refl, mul-one}
-use lib.ListN.{length, getD, replicate, length-replicate, List·getD-eq-default}
+use lib.ListN.{length-replicate, List·getD-eq-default}
 use lib.Dec.{eqb}
 use lib.IntN.{ℤ}
 use borrow.Author.Tests.{eqb-true, eq-eqb}
@@ -23,20 +23,7 @@ use Rattle.calculus.proofs.Walk.{walk-root}
 use Rattle.calculus.proofs.Truth.{truth, Sat, eqZ-eq, eq-eqZ, has, has-in, in-has}
 use Rattle.calculus.proofs.Asserting.{WellFormed, still, same-num}
 use Rattle.calculus.proofs.Measure.{measure, weight, undecided, sumBelow, sum-const}
-
-pub up-length : (s n : ℕ) → length (upFrom s n) ≡ n
-up-length s zero = refl
-up-length s (suc n) = ap suc (up-length (suc s) n)
-
-pub up-getD : (s n i d : ℕ) → d ≡ s + i → getD (upFrom s n) i d ≡ d
-up-getD s zero i d e = refl
-up-getD s (suc n) zero d e = omega arith
-up-getD s (suc n) (suc i) d e = up-getD (suc s) n i d (omega arith)
-
-zeros : (n h : ℕ) → _≡_ {A = ℕ} (getD (replicate n 0) h 0) 0
-zeros zero h = refl
-zeros (suc n) zero = refl
-zeros (suc n) (suc h) = zeros n h
+use Rattle.calculus.proofs.Sequences.{up-length, up-getD, zeros}
 
 start-walk : (f n t : ℕ) → walk f (upFrom 0 n) t ≡ t
 start-walk zero n t = refl

@@ -92,12 +92,6 @@ encoded-bytes [] f = tt
 encoded-bytes (pos n ∷ xs) f = (omega arith, (omega (arith, fits-small (pos n) (f .0)), encoded-bytes xs (f .1)))
 encoded-bytes (negsuc n ∷ xs) f = (omega arith, (omega (arith, fits-small (negsuc n) (f .0)), encoded-bytes xs (f .1)))
 
-pub words-append : (n : ℕ) (bs more : List ℕ) → length bs ≡ 2 * n → words (bs ++ more) ≡ words bs ++ words more
-words-append n [] more e = refl
-words-append n (a ∷ []) more e = absurd (omega arith)
-words-append zero (a ∷ b ∷ bs) more e = absurd (omega arith)
-words-append (suc n) (a ∷ b ∷ bs) more e = ap (λ (ys : List ℤ). signed (a + 256 * b) ∷ ys) (words-append n bs more (omega arith))
-
 -- numbers, then more: taken apart by their count
 module _ (n : ℕ) (xs : List ℤ) (more : List ℕ) (e : length xs ≡ n) where
   pub words-front : Each Fits16 xs → words (take (2 * n) (gather twoBytes xs ++ more)) ≡ xs

@@ -12,7 +12,6 @@ use terms::Term;
 ghost use mathlib.Core.Path.{_≡_};
 ghost use mathlib.Core.List.{map};
 ghost use Prim.Native.Nat.{_+_, _≤_, _<_};
-ghost use lib.ListN.{length};
 ghost use Rattle.calculus.specs.Limits.{mostTerms};
 ghost use Rattle.calculus.specs.Lists.{upFrom, all, Each};
 ghost use Rattle.calculus.specs.Relations.{holdsAt};

@@ -18,8 +18,7 @@ use Rattle.calculus.specs.Problem.{Problem, nameable, termCount, setCount, entr
 use Rattle.calculus.specs.Encoding.{encodeConstraint}
 use Rattle.calculus.specs.Invariants.{ConstraintIn}
 use Rattle.calculus.proofs.Bools.{Each-imp}
-use Rattle.calculus.proofs.Sequences.{each-at, terms-at}
-use Rattle.calculus.proofs.Start.{up-length}
+use Rattle.calculus.proofs.Sequences.{each-at, terms-at, up-length}
 use Rattle.calculus.proofs.ReadValid.{read-valid}
 use Rattle.calculus.proofs.ConstraintLaws.{constraints-in}
 use Rattle.terms.specs.declared.Term as terms

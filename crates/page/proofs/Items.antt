@@ -13,7 +13,8 @@ use Rattle.calculus.specs.Terms.{term, setVar}
 use Rattle.calculus.specs.Problem.{Problem, constantCount, setCount}
 use Rattle.calculus.specs.Encoding.{Handed}
 use Rattle.calculus.specs.Forms.{modelNumber, model, handedModel}
-use Rattle.calculus.proofs.ModelsPass.{long, at}
+use Rattle.calculus.proofs.Bools.{Each-app, Each-take}
+use Rattle.calculus.proofs.Sequences.{long, at}
 use Rattle.problem.specs.declared.Table.{Table}
 use Rattle.problem.specs.Table.{Opened}
 use Rattle.text.specs.Text.{number, separated, braces, assigned, led, Wrote}
@@ -41,15 +42,6 @@ module _ {A : Type 0} (text : A → List ℕ) where
   assigned-long [] xs = tt
   assigned-long (c ∷ cs) [] = tt
   assigned-long (c ∷ cs) (x ∷ xs) = (omega arith, assigned-long cs xs)
-
-each-append : (xs ys : List (List ℕ)) → Each (λ x. 1 ≤ length x) xs → Each (λ x. 1 ≤ length x) ys → Each (λ x. 1 ≤ length x) (xs ++ ys)
-each-append [] ys p q = q
-each-append (x ∷ xs) ys p q = (p .0, each-append xs ys (p .1) q)
-
-each-take : (n : ℕ) (xs : List (List ℕ)) → Each (λ x. 1 ≤ length x) xs → Each (λ x. 1 ≤ length x) (take n xs)
-each-take zero xs p = tt
-each-take (suc n) [] p = tt
-each-take (suc n) (x ∷ xs) p = (p .0, each-take n xs (p .1))
 
 module _ (prob : Problem) (r : List ℕ) where
   abbrev variables : ℕ
@@ -105,11 +97,11 @@ module _ (prob : Problem) (r : List ℕ) where
   all-items = ap (λ (l : List (List ℕ)). separated 32 l ++ (10 ∷ [])) (sym (ap (λ (n : ℕ). take n all) (sym items-length) ∙ take-length all))
 
   all-long : Each (λ x. 1 ≤ length x) all
-  all-long = each-append named sets (assigned-long number (prob .variables) (g .numbers)) (assigned-long braces (prob .sets) (g .sets))
+  all-long = Each-app (λ x. 1 ≤ length x) named sets (assigned-long number (prob .variables) (g .numbers)) (assigned-long braces (prob .sets) (g .sets))
 
   items-more : (k start : ℕ) → k < variables + setCount prob → itemsText (suc k) ≡ itemsText k ++ (led 32 start (start + length (itemsText k)) ++ itemAt prob r k)
   unfolding itemsText
-  items-more k start l = ap (separated 32) (take-suc all k [] (omega (arith, l, items-length))) ∙ separated-more 32 start (take k all) (getD all k []) (each-take k all all-long)
+  items-more k start l = ap (separated 32) (take-suc all k [] (omega (arith, l, items-length))) ∙ separated-more 32 start (take k all) (getD all k []) (Each-take (λ x. 1 ≤ length x) k all all-long)
 
   pub item-step : (k : ℕ) {d : List ℕ} {end m e : ℕ} {d₁ d₂ d₃ : List ℕ} → k < variables + setCount prob → Wrote d 0 (itemsText k) end d₁ → length d₁ ≡ length d → end ≤ length d
       → Wrote d₁ end (led 32 0 end) m d₂ → Wrote d₂ m (itemAt prob r k) e d₃ → Wrote d 0 (itemsText (k + 1)) e d₃

@@ -19,6 +19,7 @@ use Rattle.calculus.proofs.Parsers.{one, counted, given, answered, then}
 use Rattle.calculus.proofs.Sections.{First}
 use Rattle.calculus.proofs.ReadValid.{first-question, read-first}
 use Rattle.calculus.proofs.RecordFields.{no-longer}
+use Rattle.calculus.proofs.Sequences.{any-default}
 use Rattle.slices.specs.Bytes.{bytesAt}
 use Rattle.problem.specs.declared.Table.{Table}
 use Rattle.problem.specs.Table.{problemTable, Opened, constantOf, valuesOf}

@@ -1,7 +1,7 @@
 -- What the functions that write text are held to.
 use mathlib.Core.Path.{_≡_}
 use mathlib.Core.Bool.{Bool, cond}
-use mathlib.Core.List.{List, [], _∷_, _++_}
+use mathlib.Core.List.{List, [], _++_}
 use Prim.Native.Nat.{ℕ, _+_, _/_, _%_}
 use lib.ListN.{getD}
 use lib.Dec.{eqb}

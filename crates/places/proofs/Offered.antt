@@ -22,6 +22,11 @@ use Rattle.calculus.proofs.Walk.{walk-le, walk-root, root-walk}
 use Rattle.calculus.proofs.Sequences.{up-each, keep-each}
 use Rattle.places.specs.Places.{spanOf, InSpan, RuleOf, rowOf, listMove, moveAt, entriesOf, roots, positions, firstAt, offers}
 
+-- a propagation rule or a split is a rule of the constraint
+pub rule-of : (split : Bool) (l : Constraint) (j : ℕ) → InSpan (spanOf split l) j → RuleOf l j
+rule-of false l j r = inl r
+rule-of true l j r = inr r
+
 -- a list by its positions
 pub by-position : {X Y : Type 0} (f : X → Y) (d : X) (es : List X) → map f es ≡ map (λ (p : ℕ). f (getD es p d)) (upFrom 0 (length es))
 by-position {X} {Y} f d es = from es 0 (λ p. getD es p d) (λ p. ap (λ k. getD es k d) (omega arith))

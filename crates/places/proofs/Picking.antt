@@ -1,6 +1,6 @@
 -- Laws of `picked`: by numbers, of images, and of a list's distinct terms.
 use mathlib.Core.Path.{_≡_, refl, sym, _∙_, ap, fun-ext}
-use mathlib.Core.Bool.{Bool, true, false, _&&_, _||_, not, cond, false≢true}
+use mathlib.Core.Bool.{Bool, true, false, _&&_, _||_, not, cond, false≢true, or-assoc, and-comm}
 use mathlib.Core.Option.{Option, none, some}
 use mathlib.Core.List.{List, [], _∷_, map}
 use Prim.Native.Nat.{ℕ, zero, suc, _+_, _<_, _≤_}
@@ -8,10 +8,11 @@ use native.Mathlib.Omega.{arith}
 use native.Mathlib.Decide.{ℕ-discrete}
 use lib.ListN.{length, getD, take}
 use lib.Dec.{eqb}
-use borrow.Author.Tests.{eq-eqb, ne-eqb}
 use Rattle.calculus.specs.Lists.{upFrom, any, keep, picked, Some, here, there}
 use Rattle.calculus.specs.Terms.{Term}
 use Rattle.calculus.specs.Search.{distinct}
+use Rattle.calculus.proofs.Bools.{eqb-flip, Each-all}
+use Rattle.calculus.proofs.Sequences.{keep-all, keep-keep}
 
 module _ {X Y : Type 0} where
   pub picked-map : {W : Type 0} (f : X → Option Y) (g : W → X) (xs : List W) → picked f (map g xs) ≡ picked (λ x. f (g x)) xs
@@ -37,36 +38,10 @@ module _ {Y : Type 0} where
 
 -- ---- keeping
 
-module _ {X : Type 0} where
-  keep-all : (xs : List X) → keep (λ _. true) xs ≡ xs
-  keep-all [] = refl
-  keep-all (x ∷ xs) = ap (λ (r : List X). x ∷ r) (keep-all xs)
-
-  keep-keep : (p q : X → Bool) (xs : List X) → keep p (keep q xs) ≡ keep (λ x. p x && q x) xs
-  keep-keep p q [] = refl
-  keep-keep p q (x ∷ xs) = go (q x) (p x) refl (keep-keep p q xs)
-    where
-      go : (t u : Bool) → p x ≡ u → keep p (keep q xs) ≡ keep (λ x. p x && q x) xs → keep p (cond t (x ∷ keep q xs) (keep q xs)) ≡ cond (u && t) (x ∷ keep (λ x. p x && q x) xs) (keep (λ x. p x && q x) xs)
-      go true true e ih = rw e (ap (λ (r : List X). x ∷ r) ih)
-      go true false e ih = rw e ih
-      go false true e ih = ih
-      go false false e ih = ih
-
-eqb-flip : (i j : ℕ) → eqb i j ≡ eqb j i
-eqb-flip i j = go (ℕ-discrete i j)
-  where
-    go : Dec (i ≡ j) → eqb i j ≡ eqb j i
-    go (yes e) = eq-eqb i j e ∙ sym (eq-eqb j i (sym e))
-    go (no e) = ne-eqb i j e ∙ sym (ne-eqb j i (λ z. e (sym z)))
-
 -- neither, by De Morgan, with the second test turned round
 neither : (a x y : Bool) → x ≡ y → (not a && not x) ≡ not (a || y)
 neither true x y e = refl
 neither false x y e = ap not e
-
-or-assoc : (a b c : Bool) → (a || (b || c)) ≡ ((a || b) || c)
-or-assoc true b c = refl
-or-assoc false b c = refl
 
 -- ---- distinct terms
 
@@ -88,14 +63,15 @@ module _ {X Y : Type 0} (g : X → Term) (f : Term → Option Y) (d : X) where
 
       left : picked f rest ≡ picked f (keep (λ y. not (more y)) (distinct (map g es)))
       left = ap (picked f)
-          (keep-keep (λ y. not (q y)) (λ (y : Term). not (eqb (y .index) (g e .index))) (distinct (map g es))
+          (sym (keep-keep (λ (y : Term). not (eqb (y .index) (g e .index))) (λ y. not (q y)) (λ y. not (q y) && not (eqb (y .index) (g e .index))) (distinct (map g es))
+          (Each-all (λ y. (not (q y) && not (eqb (y .index) (g e .index))) ≡ (not (eqb (y .index) (g e .index)) && not (q y))) (λ y. and-comm (not (q y)) (not (eqb (y .index) (g e .index)))) (distinct (map g es))))
           ∙ ap (λ (r : Term → Bool). keep r (distinct (map g es))) (fun-ext (λ y. neither (q y) (eqb (y .index) (g e .index)) (eqb (g e .index) (y .index)) (eqb-flip (y .index) (g e .index)))))
 
       right : picked (entry more es) (upFrom 0 (length es)) ≡ picked (entry q (e ∷ es)) (upFrom 1 (length es))
       right =
           ap (λ (h : ℕ → Option Y). picked h (upFrom 0 (length es)))
           (fun-ext (λ c. ap (λ (t : Bool). cond t none (f (g (getD es c d))))
-          (sym (or-assoc (q (g (getD es c d))) (eqb (g e .index) (g (getD es c d) .index)) (any (λ (x : X). eqb (g x .index) (g (getD es c d) .index)) (take c es))))))
+          (or-assoc (q (g (getD es c d))) (eqb (g e .index) (g (getD es c d) .index)) (any (λ (x : X). eqb (g x .index) (g (getD es c d) .index)) (take c es)))))
           ∙ sym (picked-suc (entry q (e ∷ es)) 0 (length es))
 
       go : (t : Bool) → picked f rest ≡ picked (entry q (e ∷ es)) (upFrom 1 (length es))
@@ -105,4 +81,4 @@ module _ {X Y : Type 0} (g : X → Term) (f : Term → Option Y) (d : X) where
 
   -- the distinct terms of a list by the numbers of its entries: an entry whose term stood before gives none
   pub distinct-picked : (es : List X) → picked f (distinct (map g es)) ≡ picked (λ (c : ℕ). cond (any (λ (e : X). eqb (g e .index) (g (getD es c d) .index)) (take c es)) none (f (g (getD es c d)))) (upFrom 0 (length es))
-  distinct-picked es = ap (picked f) (sym (keep-all (distinct (map g es)))) ∙ unseen es (λ _. false)
+  distinct-picked es = ap (picked f) (sym (keep-all (λ _. true) (distinct (map g es)) (Each-all (λ _. true ≡ true) (λ _. refl) (distinct (map g es))))) ∙ unseen es (λ _. false)

@@ -85,7 +85,7 @@ module _ (n m : ℕ) where
   abbrev InRange : List (List Fact) → Type 0
   InRange gs = Each (λ g. Each (Ranged n m) g) gs
 
-  operand-in : (A B C : SetVar) → (A .index < m) × (B .index < m) × (C .index < m) → (o : Operand) → operandOf A B C o .index < m
+  pub operand-in : (A B C : SetVar) → (A .index < m) × (B .index < m) × (C .index < m) → (o : Operand) → operandOf A B C o .index < m
   operand-in A B C l R.A = l .0
   operand-in A B C l R.B = l .1
   operand-in A B C l R.C = l .2

@@ -5,8 +5,8 @@ use Prim.Native.Nat.{ℕ, zero, suc, _+_, _*_, _-_, _<_, _≤_}
 use native.Mathlib.Omega.{arith}
 use native.Mathlib.Decide.{decLt}
 use native.Mathlib.Nat.{le-of-suc-le-suc}
-use lib.ListN.{length, getD, take, drop, replicate, length-append, length-drop, length-map, getD-replicate, List·getD-append, List·getD-eq-default}
-use lib.Seq.{drop-at, take-at, drop-drop, drop-append-seam, getD-drop, getD-append-add}
+use lib.ListN.{length, getD, take, drop, length-append, length-drop, length-map, List·getD-append, List·getD-eq-default}
+use lib.Seq.{drop-at, take-at, drop-drop, drop-append-seam, getD-drop}
 use lib.IntN.{ℤ, pos}
 use Rattle.calculus.specs.Limits.{mostBytes, mostSets, mostConstraints, mostTerms}
 use Rattle.calculus.specs.Lists.{gather}
@@ -21,6 +21,7 @@ use Rattle.calculus.proofs.Parsers.{one, counted, given, answered, then}
 use Rattle.calculus.proofs.Sections.{First}
 use Rattle.calculus.proofs.ReadValid.{first-question, read-first, read-valid}
 use Rattle.calculus.proofs.Refuses.{refuses}
+use Rattle.calculus.proofs.Sequences.{term-index}
 use Rattle.problem.specs.declared.Table.{Table}
 use Rattle.slices.specs.Bytes.{placesFrom}
 use Rattle.slices.proofs.Parts.{filled-at}
@@ -156,10 +157,6 @@ module _ (bs : List ℕ) (tab : Table) (i : ℕ) (h : Placed bs tab i) where
       ap (λ (x : ℕ). getD bs x 0) (sym z) ∙ byte-there 0 (omega (arith, ap length (f .1))) .1 ∙ ap (λ (xs : List ℕ). getD xs 0 0) (f .1)
 
 -- ---- the entries of a list constraint
-
-term-index : (es : List Term) → map term (map (λ (e : Term). e .index) es) ≡ es
-term-index [] = refl
-term-index (e ∷ es) = ap (λ (l : List Term). e ∷ l) (term-index es)
 
 -- a constraint of kind 11 is a list
 list-is : (l : Constraint) → kindOf l ≡ 11 → (A : SetVar) × (es : List Term) × (l ≡ exactly A es)

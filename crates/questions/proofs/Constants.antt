@@ -5,9 +5,8 @@ use mathlib.Core.List.{List, [], _∷_, map}
 use Prim.Native.Nat.{ℕ, zero, suc, _+_, _*_, _-_, _<_, _≤_}
 use native.Mathlib.Omega.{arith}
 use native.Mathlib.Decide.{ℕ-discrete}
-use native.Mathlib.Nat.{le-of-suc-le-suc}
 use lib.ListN.{length, getD, take, drop, length-take, length-drop}
-use lib.Dec.{eqb, ltb}
+use lib.Dec.{eqb}
 use lib.IntN.{ℤ, pos, sucℤ}
 use lib.Signed.{_<ℤ_, ltZ}
 use borrow.Author.Tests.{eq-eqb, ne-eqb, eqb-true, ltb-true}
@@ -15,29 +14,11 @@ use Rattle.calculus.specs.Lists.{all, upFrom}
 use Rattle.calculus.specs.Reading.{words, eqZ, gapless}
 use Rattle.calculus.proofs.Words.{words-length}
 use Rattle.calculus.proofs.Integers.{passed}
+use Rattle.calculus.proofs.Sequences.{at}
 use Rattle.slices.specs.Bytes.{bytesAt, raisedAt}
 use Rattle.slices.proofs.Parts.{two-more, AllBytes, bytes-fit}
 use Rattle.slices.proofs.SignedWords.{raised-next, raised-order}
 use Rattle.questions.specs.Questions.{ConstantsRise, constantAt, constantsOf}
-
--- ---- n numbers from s upward
-
-module _ {A : Type 0} (f : ℕ → A) where
-  up-at : (s n p : ℕ) (d : A) → p < n → getD (map f (upFrom s n)) p d ≡ f (s + p)
-  up-at s zero p d l = absurd (omega arith)
-  up-at s (suc n) zero d l = let e : s ≡ s + 0 = omega arith in ap f e
-  up-at s (suc n) (suc p) d l = let e : suc s + p ≡ s + suc p = omega arith in up-at (suc s) n p d (le-of-suc-le-suc l) ∙ ap f e
-
-pub up-more : (i k : ℕ) → i < k → upFrom i (k - i) ≡ i ∷ upFrom (i + 1) (k - (i + 1))
-up-more i k l =
-    let e : k - i ≡ suc (k - (i + 1)) = omega arith in
-    let s : suc i ≡ i + 1 = omega arith in
-    ap (upFrom i) e ∙ ap (λ (j : ℕ). i ∷ upFrom j (k - (i + 1))) s
-
-pub up-done : (i k : ℕ) → k ≤ i → upFrom i (k - i) ≡ []
-up-done i k l = let e : k - i ≡ 0 = omega arith in ap (upFrom i) e
-
--- ---- the constants
 
 module _ (bs : List ℕ) where
   from : (k s : ℕ) → 1 + 2 * (s + k) ≤ length bs → words (take (2 * k) (drop (1 + 2 * s) bs)) ≡ map (constantAt bs) (upFrom s k)
@@ -55,7 +36,7 @@ module _ (bs : List ℕ) where
   constants-length k l = words-length k (take (2 * k) (drop 1 bs)) (omega (arith, length-take (2 * k) (drop 1 bs), length-drop 1 bs))
 
   pub constant-at : (k p : ℕ) → 1 + 2 * k ≤ length bs → p < k → getD (constantsOf bs k) p (pos 0) ≡ constantAt bs p
-  constant-at k p l h = ap (λ (cs : List ℤ). getD cs p (pos 0)) (constants-are k l) ∙ up-at (constantAt bs) 0 k p (pos 0) h ∙ (let e : 0 + p ≡ p = omega arith in ap (constantAt bs) e)
+  constant-at k p l h = ap (λ (cs : List ℤ). getD cs p (pos 0)) (constants-are k l) ∙ at (constantAt bs) 0 k p p (pos 0) h (omega arith)
 
 -- ---- question 9: of rising constants, by the two ends
 

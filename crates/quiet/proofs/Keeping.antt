@@ -1,9 +1,9 @@
 -- A constraint stays idle where a branch grows, if no rule of it needs what is new, and none needs two facts where two classes become one.
-use mathlib.Core.Path.{_≡_, refl, sym, ap, _∙_, subst}
+use mathlib.Core.Path.{_≡_, refl, sym, _∙_, subst}
 use mathlib.Core.Logic.{_⊎_, inl, inr}
 use mathlib.Core.Bool.{Bool, true, false, true≢false}
 use mathlib.Core.Option.{none}
-use mathlib.Core.List.{List, [], _∷_, append-nil}
+use mathlib.Core.List.{List, [], _∷_}
 use Prim.Native.Nat.{ℕ, _+_, _<_}
 use native.Mathlib.Omega.{arith}
 use lib.ListN.{length, getD, length-map}
@@ -18,7 +18,7 @@ use Rattle.calculus.specs.Branch.{Branch, rootAt, In, Out, Same, known}
 use Rattle.calculus.specs.Invariants.{ConstraintIn}
 use Rattle.calculus.specs.Search.{Move, at, choose}
 use Rattle.calculus.proofs.Bools.{or-l, or-r, first-none, Each-imp, Each-map}
-use Rattle.calculus.proofs.SearchLaws.{first-skip, first-next}
+use Rattle.calculus.proofs.SearchLaws.{first-next, none-found}
 use Rattle.calculus.proofs.Sequences.{up-each, up-at, keep-each, keep-at}
 use Rattle.places.specs.Places.{RuleOf, rowOf, roots, firstAt}
 use Rattle.branch.specs.Rows.{literalCount}
@@ -33,9 +33,6 @@ pub record Spared (n : ℕ) (l : Constraint) (lo hi word : ℕ) : Type 0 where
   pub in-range : ConstraintIn n mostSets l
   pub unneeded : (j k : ℕ) → k < literalCount → RuleOf l j → needs l j k ≡ true → bit word k ≡ false
   pub unpaired : (j : ℕ) → RuleOf l j → (lo ≡ hi) ⊎ ((hi < n) × (pairs l j ≡ false))
-
-pub none-found : {X : Type 0} (p : X → Bool) (xs : List X) → Each (λ x. p x ≡ false) xs → first p xs ≡ none
-none-found p xs e = ap (first p) (sym (append-nil xs)) ∙ first-skip p xs [] e
 
 -- literals that are not needed are old
 unneeded-old : (word : ℕ) (f : Literal → ℕ) → ((x : Literal) → f x < literalCount) → (xs : List Literal) → ((k : ℕ) → k < literalCount → any (λ (x : Literal). eqb (f x) k) xs ≡ true → bit word k ≡ false) → Each (λ x. bit word (f x) ≡ false) xs

@@ -20,9 +20,9 @@ use Rattle.calculus.specs.Branch.{Branch, rootAt, root, In, Out, Same}
 use Rattle.calculus.specs.Branch as calculus
 use Rattle.calculus.specs.Invariants.{Falls}
 use Rattle.calculus.specs.Search.{Move, choose, at}
-use Rattle.calculus.proofs.Bools.{clash, and-l, any-map, map-Each}
+use Rattle.calculus.proofs.Bools.{clash, and-l, any-map, map-Each, eqb-flip, Each-all}
 use Rattle.calculus.proofs.Masks.{bit-and, bit-pow, bit-zero}
-use Rattle.calculus.proofs.SearchLaws.{first-stop, first-next}
+use Rattle.calculus.proofs.SearchLaws.{first-stop, first-next, none-found}
 use Rattle.calculus.specs.Relations.{operandOf}
 use Rattle.calculus.proofs.Walk.{walk-root, root-walk}
 use Rattle.calculus.specs.Invariants.{ConstraintIn}
@@ -45,9 +45,8 @@ use Rattle.rules.specs.declared.Row.{Row as Code}
 use Rattle.rules.specs.declared.Split.{Split}
 use Rattle.rules.specs.Rows.{numbered, sets, HasRow, splitting, numberOf, laid, parted, denying}
 use Rattle.rules.specs.Words.{forcedWord, dividedWord, deniedWord, metWord, LowChild, LowDenial, missed, OfRoots, Listing, Lent, Asked, Fits, FitsFor}
-use Rattle.rules.proofs.Listed.{turned}
 use Rattle.rules.proofs.TableTests.{row-of, denied-row, forcedTest, dividedTest, deniedTest}
-use Rattle.rules.proofs.Lowest.{at-one, first-fails, first-map, map-map, first-range, single, one-fits, roots-fits}
+use Rattle.rules.proofs.Lowest.{at-one, first-map, map-map, first-range, single, one-fits, roots-fits}
 use Rattle.rules.proofs.RowBits.{known-in, known-out, applies-at, laid-low, parted-low, denying-low, forced-bits, divided-bits, met-bits, met-small, but-bits, but-three}
 
 -- ---- the word of rule j, by the decoded constraint: over parents, rows and entries
@@ -76,7 +75,7 @@ root-own ps fall t = walk-root ps fall (rootOf ps t) (root-walk ps fall t)
 pub class-known : (b : Branch) (h : ℕ) → rootAt b h ≡ h → (es : List ℕ) → any (all (calculus.known b)) (map (λ (x : Term). Same (term h) x ∷ []) (map term es)) ≡ any (λ (e : ℕ). eqb (rootOf (b .parents) e) h) es
 class-known b h e es =
     any-map (all (calculus.known b)) (λ (x : Term). Same (term h) x ∷ []) (map term es) ∙ any-map (λ (x : Term). all (calculus.known b) (Same (term h) x ∷ [])) term es
-    ∙ ap (λ (f : ℕ → Bool). any f es) (fun-ext (λ x. and-true (eqb (rootAt b h) (rootAt b x)) ∙ ap₂ eqb e (root-is b x) ∙ turned h (rootOf (b .parents) x)))
+    ∙ ap (λ (f : ℕ → Bool). any f es) (fun-ext (λ x. and-true (eqb (rootAt b h) (rootAt b x)) ∙ ap₂ eqb e (root-is b x) ∙ eqb-flip h (rootOf (b .parents) x)))
 
 module _ (n : ℕ) (b : Branch) (rows : List ℕ) (of : RowsOf b rows) (fall : Falls (b .parents)) (few : n ≤ mostTerms) where
   abbrev rt : ℕ → ℕ
@@ -172,7 +171,7 @@ module _ (n : ℕ) (b : Branch) (rows : List ℕ) (of : RowsOf b rows) (fall : F
 
     -- the first entry where it applies
     first-entry : (xs : List ℕ) → Each (λ e. e < n) xs → Option·map (λ (m : Term × Move). m .0 .index) (first holds (map G (map term xs))) ≡ first (bit (missed (b .parents) row xs)) (upFrom 0 n)
-    first-entry [] e = sym (first-fails (bit 0) (upFrom 0 n) (λ h. bit-zero h))
+    first-entry [] e = sym (none-found (bit 0) (upFrom 0 n) (Each-all (λ h. bit 0 h ≡ false) bit-zero (upFrom 0 n)))
     first-entry (x ∷ xs) (l, e) = go (known b (A .index) (rt x)) (entry-holds x) (row-at (A .index) x (omega arith) l) (first-entry xs e)
       where
         Rest : Type 0

@@ -1,6 +1,5 @@
 -- What the loops of `search` keep, and how each goes on. Whatever branch the parents and rows show, the rules that were passed do not apply there. So if the constraints outside the scope are idle, all but those that are left are.
 use mathlib.Core.Path.{_≡_, refl, sym, ap, _∙_, subst}
-use mathlib.Core.Logic.{inl, inr}
 use mathlib.Core.Bool.{Bool, true, false, not, and-true}
 use mathlib.Core.Option.{Option·map, some, map-eq-none-iff, map-eq-some-iff, none}
 use mathlib.Core.List.{List, map}
@@ -20,21 +19,21 @@ use Rattle.calculus.specs.Meaning as calculus
 use Rattle.calculus.specs.Branch.{Branch, walk, rootAt}
 use Rattle.calculus.specs.Invariants.{Falls, ConstraintIn}
 use Rattle.calculus.specs.Reading.{read}
-use Rattle.calculus.proofs.Bools.{clash, and-l}
+use Rattle.calculus.proofs.Bools.{clash, and-l, Each-all}
 use Rattle.calculus.proofs.Walk.{walk-root, root-walk}
+use Rattle.calculus.proofs.SearchLaws.{none-found}
 use Rattle.bits.proofs.Bits.{bit-shr, bit-zero, no-bit}
 use Rattle.bits.proofs.Count.{lowest-set, below-lowest, bit-less, less-lt}
 use Rattle.problem.specs.declared.Totals.{Totals}
 use Rattle.problem.specs.Table.{Tabled, constraintsOf, constraintOf, noConstraint, tableBy}
 use Rattle.problem.proofs.Access.{opened-sizes, constraint-count}
 use Rattle.places.specs.Places.{propagationSpan, splitSpan, spanOf, InSpan, RuleOf, moveAt, firstAt}
-use Rattle.places.proofs.Offered.{relation-19, position-root, position-of}
+use Rattle.places.proofs.Offered.{relation-19, position-root, position-of, rule-of}
 use Rattle.constraints.specs.declared.Constraint.{Constraint}
 use Rattle.constraints.specs.Decoded.{decoded, Unpacked}
 use Rattle.constraints.proofs.Decoding.{kind-here, constraint-in}
 use Rattle.rules.specs.Spans.{Spanned}
 use Rattle.rules.specs.Words.{Lent, EntryBits, Asked, Shown, Fits}
-use Rattle.rules.proofs.Lowest.{first-fails}
 use Rattle.rules.proofs.FitLaws.{entries-below}
 use Rattle.quiet.specs.Quiet.{Idle, Quiet}
 use Rattle.search.specs.declared.Found.{Found}
@@ -60,11 +59,7 @@ spans (calculus.negation k A B C w) = (omega arith, omega arith)
 spans (calculus.exactly A es) = (omega arith, omega arith)
 spans (calculus.interval A x y es) = (omega arith, omega arith)
 
--- a propagation rule or a split is a rule of the constraint, and is not rule 0
-pub rule-of : (split : Bool) (l : calculus.Constraint) (j : ℕ) → InSpan (spanOf split l) j → RuleOf l j
-rule-of false l j h = inl h
-rule-of true l j h = inr h
-
+-- a propagation rule or a split is not rule 0
 not-0 : (split : Bool) (l : calculus.Constraint) (j : ℕ) → InSpan (spanOf split l) j → ¬ (j ≡ 0)
 not-0 false l j h e = omega (arith, spans l .0, h .0, h .1)
 not-0 true l j h e = omega (arith, spans l .1, h .0, h .1)
@@ -227,7 +222,7 @@ module _ {split : Bool} {n : ℕ} {bs ps rows : List ℕ} where
 
         -- a rule whose word is empty does not apply
         pub no-roots : fit ≡ 0 → {s : Found} → s ≡ r → AtRule split n bs ps rows i (j + 1) end es bits l s
-        no-roots z e = rule-over e (λ b y. map-eq-none-iff _ _ .0 (fits b y ∙ first-fails (bit fit) (upFrom 0 n) (λ k. no-bit fit k z)))
+        no-roots z e = rule-over e (λ b y. map-eq-none-iff _ _ .0 (fits b y ∙ none-found (bit fit) (upFrom 0 n) (Each-all (λ k. bit fit k ≡ false) (λ k. no-bit fit k z) (upFrom 0 n))))
 
         -- any other is looked at from its lowest bit on
         pub roots-start : j < end → AtRoot split n bs ps rows i j end es bits l fit (trailingZeros 64 fit) r

@@ -3,7 +3,7 @@ use mathlib.Core.Path.{_≡_, refl, sym, ap, _∙_}
 use mathlib.Core.Logic.{_⊎_, inl, inr}
 use mathlib.Core.Bool.{Bool, true, false, _&&_, _||_, and-true, or-false, or-assoc}
 use mathlib.Core.List.{List, [], _∷_}
-use Prim.Native.Nat.{ℕ, zero, suc, _+_, _-_, _^_, _<_, _≤_}
+use Prim.Native.Nat.{ℕ, _+_, _-_, _^_, _<_, _≤_}
 use native.Mathlib.Omega.{arith}
 use native.Mathlib.Decide.{ℕ-discrete}
 use lib.ListN.{length, getD, set, replicate, length-set}
@@ -17,6 +17,7 @@ use Rattle.calculus.specs.Lists.{upFrom, any, keep, bit}
 use Rattle.calculus.specs.Terms.{Term}
 use Rattle.calculus.specs.Reading.{read}
 use Rattle.calculus.proofs.Bools.{clash, and-i, and-r, or-cases, or-l, or-r}
+use Rattle.calculus.proofs.Sequences.{zeros}
 use Rattle.bits.proofs.Bits.{bit-or, bit-pow, bit-zero, bit-low, no-bit}
 use Rattle.bits.proofs.Count.{lowest-set, lowest-keep, bit-less, less-lt}
 use Rattle.problem.specs.declared.Totals.{Totals}
@@ -119,12 +120,7 @@ pub record Filled (bs words : List ℕ) (i : ℕ) : Type 0 where
   pub in-problem : i ≤ length (constraintsOf (read bs))
 
 pub fill-start : (bs : List ℕ) → Filled bs (replicate wordCount 0) 0
-fill-start bs = record { long = refl; entries = λ k l. absurd (omega arith); needed = λ k l. absurd (omega arith); low = λ h k e. clash e (ap (λ (x : ℕ). bit x k) (getD-replicate 67 (markWord h)) ∙ bit-zero k); in-problem = omega arith }
-  where
-    getD-replicate : (n j : ℕ) → _≡_ {A = ℕ} (getD (replicate n 0) j 0) 0
-    getD-replicate zero j = refl
-    getD-replicate (suc n) zero = refl
-    getD-replicate (suc n) (suc j) = getD-replicate n j
+fill-start bs = record { long = refl; entries = λ k l. absurd (omega arith); needed = λ k l. absurd (omega arith); low = λ h k e. clash e (ap (λ (x : ℕ). bit x k) (zeros wordCount (markWord h)) ∙ bit-zero k); in-problem = omega arith }
 
 pub fill-next : {bs words after offsets witnesses : List ℕ} {i : ℕ} {es : List ℕ} {l : Constraint} {w literals : ℕ} → Filled bs words i → Turn bs offsets witnesses i → Unpacked bs i es l → EntryBits es w → NeedsOf (constraintOf bs i) literals → Marked literals i (set words i w) after → Filled bs after (i + 1)
 fill-next {bs} {words} {after} {i = i} {w = w} {literals} f t u b n m = record {

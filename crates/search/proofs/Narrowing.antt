@@ -22,7 +22,7 @@ use Rattle.calculus.specs.Invariants.{ConstraintIn}
 use Rattle.calculus.specs.Search.{choose}
 use Rattle.calculus.specs.Reading.{read}
 use Rattle.calculus.proofs.Bools.{clash, and-l, and-r, or-cases, or-l, or-r, not-f, Each-imp}
-use Rattle.calculus.proofs.SearchLaws.{first-next}
+use Rattle.calculus.proofs.SearchLaws.{first-next, none-found}
 use Rattle.calculus.proofs.Sequences.{up-each, keep-each}
 use Rattle.bits.proofs.Bits.{bit-and, bit-pow, bit-without, bit-zero, no-bit}
 use Rattle.bits.proofs.Count.{lowest-set, bit-less, less-lt}
@@ -40,7 +40,6 @@ use Rattle.rules.proofs.RowBits.{known-in}
 use Rattle.rules.proofs.Listed.{covered}
 use Rattle.quiet.specs.Quiet.{Idle, Quiet, WordsOf, splitMark, markWord}
 use Rattle.quiet.proofs.Sayings.{holds, says, chosen-said}
-use Rattle.quiet.proofs.Keeping.{none-found}
 use Rattle.constraints.proofs.Decoding.{in-range}
 use Rattle.search.specs.Turns.{Turn, Narrows}
 

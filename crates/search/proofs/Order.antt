@@ -19,7 +19,7 @@ use Rattle.calculus.specs.Branch.{Branch, known}
 use Rattle.calculus.specs.Search.{Move, Candidate, candidates}
 use Rattle.calculus.proofs.Bools.{test}
 use Rattle.calculus.proofs.SearchLaws.{first-stop, first-next, first-left, first-none-app}
-use Rattle.questions.proofs.Constants.{up-more, up-done}
+use Rattle.calculus.proofs.Sequences.{up-more, up-done}
 use Rattle.problem.specs.Table.{noConstraint}
 use Rattle.places.specs.Places.{spanOf, InSpan, moveAt, positions, firstAt, offers}
 use Rattle.places.proofs.Offered.{offered}

@@ -9,6 +9,7 @@ use lib.Seq.{drop-cons}
 use mir.Syntax.{w8}
 use mir.Val.{Fits}
 use Rattle.slices.specs.Bytes.{bytesAt, raisedAt, placesFrom, filled}
+use Rattle.calculus.proofs.Sequences.{zeros}
 
 -- a part, entry by entry
 module _ (s : List ℕ) (i : ℕ) where
@@ -28,9 +29,7 @@ pub filled-at : (n : ℕ) (xs : List ℕ) (i : ℕ) → getD (filled n xs) i 0 �
 filled-at n xs i = go (n - length xs) xs i
   where
     go : (m : ℕ) (xs : List ℕ) (i : ℕ) → getD (xs ++ replicate m 0) i 0 ≡ getD xs i 0
-    go zero [] i = refl
-    go (suc m) [] zero = refl
-    go (suc m) [] (suc i) = go m [] i
+    go m [] i = zeros m i
     go m (x ∷ xs) zero = refl
     go m (x ∷ xs) (suc i) = go m xs i
 

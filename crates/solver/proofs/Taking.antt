@@ -1,6 +1,5 @@
 -- A step at the place that a search found. It is the branch's next, its children are those of the numbers below `slotsOf`, each child is sound, and less remains in it.
 use mathlib.Core.Path.{_≡_, refl, sym, ap, _∙_, subst}
-use mathlib.Core.Logic.{inl, inr}
 use mathlib.Core.Bool.{Bool, true, false}
 use mathlib.Core.Option.{none, some}
 use mathlib.Core.List.{List, [], _∷_, map}
@@ -32,6 +31,7 @@ use Rattle.places.specs.Places.{RuleOf, InSpan, spanOf, propagationSpan, entrie
 use Rattle.places.specs.Alternatives.{slotsOf, childOf}
 use Rattle.places.proofs.Picking.{picked-among}
 use Rattle.places.proofs.Slots.{children-slots, move-rule, child-fit, propagation-slots}
+use Rattle.places.proofs.Offered.{rule-of}
 use Rattle.search.specs.declared.Found.{Found}
 use Rattle.search.specs.First.{candidateAt, found, firstPlace, spot, Located, Finds}
 use Rattle.step.specs.declared.Act.{Act}
@@ -59,10 +59,6 @@ pub record Made (bs : List ℕ) (tab : Table) (b : Branch) (r : Found) (q : ℕ)
   pub there : k < slotsOf (decoded (map term es) (r .constraint)) (r .rule)
   pub asserts : childOf (constants bs tab) (held b) (decoded (map term es) (r .constraint)) (r .rule) q k ≡ resultOf t
   pub rowed : Rowed (constants bs tab) (t .branch)
-
-rule-of : (split : Bool) (l : Constraint) (j : ℕ) → InSpan (spanOf split l) j → RuleOf l j
-rule-of false l j r = inl r
-rule-of true l j r = inr r
 
 some-map : (f : calculus.Branch → calculus.Branch) (d : calculus.Branch) (cs : List calculus.Branch) → Some (λ x. x ≡ d) cs → Some (λ x. x ≡ f d) (map f cs)
 some-map f d cs (here q) = here (ap f q)

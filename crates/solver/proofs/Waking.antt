@@ -13,7 +13,7 @@ use Rattle.calculus.specs.Limits.{mostSets}
 use Rattle.calculus.specs.Lists.{upFrom, any, bit}
 use Rattle.calculus.specs.Terms.{Term}
 use Rattle.calculus.specs.Meaning.{Constraint}
-use Rattle.calculus.proofs.Bools.{and-r}
+use Rattle.calculus.proofs.Bools.{and-r, or-r}
 use Rattle.problem.specs.declared.Table.{Table}
 use Rattle.problem.specs.declared.Totals.{Totals}
 use Rattle.problem.specs.Table.{Opened, tableBy, constraintOf}
@@ -64,17 +64,13 @@ both-low a b i {n} f g e = go (bit a i) refl
     go false z = g (ap (λ (x : Bool). x || bit b i) (sym z) ∙ sym (bit-or a b i) ∙ e)
 
 -- one of some numbers passes a test
-or-true : (x y : Bool) → y ≡ true → (x || y) ≡ true
-or-true true y z = refl
-or-true false y z = z
-
 some-up : (f : ℕ → Bool) (k m n : ℕ) → k ≤ m → m < k + n → f m ≡ true → any f (upFrom k n) ≡ true
 some-up f k m zero l h e = absurd (omega arith)
 some-up f k m (suc n) l h e = go (ℕ-discrete m k) (λ l h. some-up f (suc k) m n l h e)
   where
     go : Dec (m ≡ k) → (suc k ≤ m → m < suc k + n → any f (upFrom (suc k) n) ≡ true) → (f k || any f (upFrom (suc k) n)) ≡ true
     go (yes q) r = ap (λ (t : Bool). t || any f (upFrom (suc k) n)) (ap f (sym q) ∙ e)
-    go (no q) r = or-true (f k) (any f (upFrom (suc k) n)) (r (omega arith) (omega arith))
+    go (no q) r = or-r (f k) (r (omega arith) (omega arith))
 
 each-up : (f : ℕ → Bool) (P : Type 0) (k n : ℕ) → any f (upFrom k n) ≡ true → ((m : ℕ) → k ≤ m → m < k + n → f m ≡ true → P) → P
 each-up f P k zero e g = absurd (false≢true e)

@@ -16,6 +16,7 @@ use Rattle.calculus.specs.Meaning.{Constraint, member, nonmember, same, differe
 use Rattle.calculus.specs.Branch as calculus
 use Rattle.calculus.specs.Search.{step, next}
 use Rattle.calculus.specs.Forms.{recordLength, recordOf}
+use Rattle.calculus.proofs.Sequences.{index-term}
 use Rattle.problem.specs.declared.Table.{Table}
 use Rattle.problem.specs.Table.{Opened, constraintOf, noConstraint}
 use Rattle.branch.specs.declared.Branch.{Branch}
@@ -87,14 +88,10 @@ split-not-19 (exactly A es) j s e = omega (arith, s .0)
 split-not-19 (interval A i k es) j s e = omega (arith, s .0)
 
 -- the entries of a constraint that is decoded are told by it
-indices : (es : List ℕ) → map (λ (t : Term). t .index) (map term es) ≡ es
-indices [] = refl
-indices (e ∷ es) = ap (λ (x : List ℕ). e ∷ x) (indices es)
-
 unpacked-same : {bs : List ℕ} {i : ℕ} {es fs : List ℕ} {l : Coded} → Unpacked bs i es l → Unpacked bs i fs l → es ≡ fs
 unpacked-same {es = es} {fs = fs} u v =
     let w : map term es ≡ map term fs = sym (u .handled .entries-are) ∙ ap entriesOf (sym (u .is) ∙ v .is) ∙ v .handled .entries-are in
-    sym (indices es) ∙ ap (map (λ (t : Term). t .index)) w ∙ indices fs
+    sym (index-term es) ∙ ap (map (λ (t : Term). t .index)) w ∙ index-term fs
 
 -- the entries that a constraint is decoded with are its own
 own-entries : {es : List ℕ} {l : Coded} → Handled es l → decoded (map term es) l ≡ decoded (entriesOf (decoded (map term es) l)) l

@@ -1,6 +1,5 @@
 // Text in a buffer. Each function writes at a place, and answers where the text ends.
 use slices::put;
-ghost use mathlib.Core.Path.{_≡_};
 ghost use Prim.Native.Nat.{_+_, _≤_};
 ghost use lib.ListN.{length};
 ghost use Rattle.calculus.specs.Reading.{signed};

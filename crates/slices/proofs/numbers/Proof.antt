@@ -3,7 +3,6 @@ use mathlib.Core.Path.{_≡_, refl, ap, _∙_}
 use mathlib.Core.List.{List}
 use Prim.Native.Nat.{ℕ, _≤_, _-_}
 use native.Mathlib.Omega.{arith}
-use borrow.Author.Needs.{needs}
 use lib.ListN.{set}
 use Rattle.calculus.specs.Limits.{mostTerms}
 use Rattle.slices.proofs.Counting.{counted, count-more, count-done}
