@@ -1,5 +1,5 @@
 -- A form that is listed, or has no room; a step that is noted, or has no budget.
-use mathlib.Core.Path.{_≡_, refl}
+use mathlib.Core.Path.{_≡_, refl, _∙_, sym}
 use mathlib.Core.List.{List, _++_}
 use Prim.Native.Nat.{ℕ, zero, suc, _+_, _*_, _<_, _≤_}
 use native.Mathlib.Omega.{arith}
@@ -10,7 +10,7 @@ use borrow.Author.Tests.{le-leb, lt-leb, eq-eqb, ne-eqb}
 use Rattle.calculus.specs.Limits.{termBytes}
 use Rattle.calculus.specs.Branch.{Branch}
 use Rattle.calculus.specs.Forms.{recordLength, recordOf}
-use Rattle.calculus.proofs.Records.{record-length}
+use Rattle.calculus.proofs.RecordFields.{record-length}
 use Rattle.slices.specs.Bytes.{putAt}
 use Rattle.output.specs.State.{State, counted, state, listed, noted}
 
