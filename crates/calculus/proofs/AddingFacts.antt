@@ -12,7 +12,7 @@ use Rattle.calculus.specs.Relations.{Rule, applies, propagation, choice,
 use Rattle.calculus.specs.Relations as R
 use Rattle.calculus.specs.Meaning.{Constraint, member, nonmember, same, different, relation, negation, exactly, interval}
 use Rattle.calculus.specs.Branch.{Branch, rootAt, root, inside, outside, Fact, In, Out, Same, known}
-use Rattle.calculus.specs.Search.{Move, factOf, at, over, distinct, listing, choose, choosing, propagations, splits, rootsOf}
+use Rattle.calculus.specs.Search.{Move, factOf, at, atRoots, distinct, entering, choose, choosing, propagations, splits, rootsOf}
 use Rattle.calculus.specs.Invariants.{ConstraintIn}
 use Rattle.calculus.proofs.Bools.{and-l, and-r, and-i, or-cases, or-none-l, or-none-r, imp-at, imp-i, clash, test, not-t, not-f, each-all, all-each, all-map, any-map, Each-app, Each-left, Each-right, Each-all, Each-imp, Each-zip, Each-map, map-Each, Each-gather}
 use Rattle.calculus.proofs.Tables.{litTrue, rows-add, negation-add}
@@ -74,15 +74,15 @@ module _ (n : ℕ) (k : List Term) (m : ℕ) (b : Branch) (F : WellFormed n k b)
       go false y = refl
 
   module _ (hs : List Term) (hn : Each (λ h. h .index < n) hs) where
-    over-tame : (A B C : SetVar) (rs : List (Rule Literal)) → ((h : Term) → Each (λ r. h .index < n → Tame (at h (operandOf A B C) r)) rs) → Each (λ (p : Term × Move). Tame (p .1)) (over hs (operandOf A B C) rs)
+    over-tame : (A B C : SetVar) (rs : List (Rule Literal)) → ((h : Term) → Each (λ r. h .index < n → Tame (at h (operandOf A B C) r)) rs) → Each (λ (p : Term × Move). Tame (p .1)) (atRoots hs (operandOf A B C) rs)
     over-tame A B C rs f =
         over-each Tame (operandOf A B C) hs rs
         (Each-imp (λ r. (h : Term) → h .index < n → Tame (at h (operandOf A B C) r)) (λ r. Each (λ h. Tame (at h (operandOf A B C) r)) hs) rs
         (λ r g. Each-imp (λ h. h .index < n) (λ h. Tame (at h (operandOf A B C) r)) hs g hn)
         (Each-swap (λ h r. h .index < n → Tame (at h (operandOf A B C) r)) rs f))
 
-    listing-tame : (A : SetVar) (es : List Term) → A .index < m → Each (λ e. e .index < n) es → Each (λ (p : Term × Move). Tame (p .1)) (listing hs b A es)
-    listing-tame A es l en = Each-map (λ (p : Term × Move). Tame (p .1)) (λ (e : Term). (root b e, propagation 19 [] (In e A))) es
+    entering-tame : (A : SetVar) (es : List Term) → A .index < m → Each (λ e. e .index < n) es → Each (λ (p : Term × Move). Tame (p .1)) (entering hs b A es)
+    entering-tame A es l en = Each-map (λ (p : Term × Move). Tame (p .1)) (λ (e : Term). (root b e, propagation 19 [] (In e A))) es
         (Each-imp (λ e. e .index < n) (λ e. Tame (propagation 19 [] (In e A))) es (λ e q. (propagation-adds 19 [] (In e A), (((q, l), tt), tt))) en)
 
     -- rule 20: no entry's root is the root
@@ -117,8 +117,8 @@ module _ (n : ℕ) (k : List Term) (m : ℕ) (b : Branch) (F : WellFormed n k b)
     propagations-tame (different t u) r = ((imp-i (applies (known b) (record { rule = 4; premises = Same t u ∷ []; blockers = []; alternatives = [] })) true (λ _. refl), tt), tt)
     propagations-tame (relation K A B C) r = over-tame A B C (propagationRows K) (λ h. Each-left (λ r. h .index < n → Tame (at h (operandOf A B C) r)) (propagationRows K) (splitRows K) (rows-tame (rows K) (λ i o. rows-add i o K) A B C r h))
     propagations-tame (negation K A B C w) r = tt
-    propagations-tame (exactly A es) r = listing-tame A es (r .0) (r .1)
-    propagations-tame (interval A i j es) r = listing-tame A es (r .0) (r .1)
+    propagations-tame (exactly A es) r = entering-tame A es (r .0) (r .1)
+    propagations-tame (interval A i j es) r = entering-tame A es (r .0) (r .1)
 
     pub splits-tame : (l : Constraint) → ConstraintIn n m l → Each (λ (p : Term × Move). Tame (p .1)) (splits hs b l)
     splits-tame (member t A) r = tt

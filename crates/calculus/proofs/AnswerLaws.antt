@@ -16,7 +16,7 @@ use Rattle.calculus.specs.Problem.{Problem, termCount, setCount, constan
 use Rattle.calculus.specs.Reading.{Parsed, parsed, refused, _>>=_, ask, read}
 use Rattle.calculus.specs.Check.{readAssignment, assignmentOf, lowest}
 use Rattle.calculus.specs.Encoding.{Handed}
-use Rattle.calculus.specs.Calls.{Verdict, FORMS, FALSE, SPENT, NOROOM, Answer, refusal, ended, asked, call, pack, verdictNumber, answerWord, Checked, declined, HOLDS, FAILS, found, check, checkWord}
+use Rattle.calculus.specs.Calls.{Verdict, FORMS, FALSE, SPENT, NOROOM, Answer, refusal, ended, asked, call, pack, verdictNumber, answerWord, Checked, declined, HOLDS, FAILS, checkedBy, check, checkWord}
 use Rattle.calculus.specs.Order.{StepOf, Progress, Works, all-worked, none-listed, listing, no-room, spending, closing, stepping}
 use Rattle.calculus.specs.Demands.{Unpacks, Answers}
 use Rattle.calculus.proofs.Bools.{Each-app, Each-imp, Each-map}
@@ -150,7 +150,7 @@ module _ (bytes : List ℕ) (budget : ℕ) (forms trace : List ℕ) where
 data Tried (bytes assignment : List ℕ) : Checked → Type 0 where
   no-problem : (n : ℕ) → read bytes ≡ refused n → Tried bytes assignment (declined n)
   no-assignment : (prob : Problem) (n : ℕ) → readAssignment prob assignment ≡ refused n → Tried bytes assignment (declined n)
-  tested : (prob : Problem) (g : Handed) (o : Option ℕ) → read bytes ≡ parsed prob → readAssignment prob assignment ≡ parsed g → Tried bytes assignment (found (parsed o))
+  tested : (prob : Problem) (g : Handed) (o : Option ℕ) → read bytes ≡ parsed prob → readAssignment prob assignment ≡ parsed g → Tried bytes assignment (checkedBy (parsed o))
 
 tried : (bytes assignment : List ℕ) → Tried bytes assignment (check bytes assignment)
 unfolding check _>>=_

@@ -25,7 +25,7 @@ use Rattle.calculus.specs.Run.{Event, formed, stepped, log, Tally, stop,
 use Rattle.calculus.specs.Forms.{recordOf, recordLength, listedForms, Agrees, SatisfiesForm}
 use Rattle.calculus.specs.Run as R
 use Rattle.calculus.specs.Reading.{Parsed, parsed, refused, _>>=_, ask, read}
-use Rattle.calculus.specs.Calls.{Verdict, FORMS, FALSE, SPENT, NOROOM, Answer, refusal, ended, Outcome, verdictOf, over, asked, left, answered, call}
+use Rattle.calculus.specs.Calls.{Verdict, FORMS, FALSE, SPENT, NOROOM, Answer, refusal, ended, Outcome, verdictOf, over, asked, outcomeLeft, answered, call}
 use Rattle.calculus.specs.Order.{Progress, Works}
 use Rattle.calculus.specs.Demands.{Follows, SameSolutions, Stops, Kept}
 use Rattle.calculus.proofs.Bools.{Each-all, Each-imp, Each-app}

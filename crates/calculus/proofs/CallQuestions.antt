@@ -13,7 +13,7 @@ use Rattle.calculus.specs.Encoding.{Bytes, Handed, WrittenAssignment}
 use Rattle.calculus.specs.Reading.{Parsed, parsed, refused, _>>=_, read}
 use Rattle.calculus.specs.Check.{readAssignment, assignmentOf, lowest}
 use Rattle.calculus.specs.Questions.{of-problem, FirstNoOfRun, over-budget, short-trace, FirstNoOfCheck, no-assignment}
-use Rattle.calculus.specs.Calls.{asked, Checked, declined, found, check}
+use Rattle.calculus.specs.Calls.{asked, Checked, declined, checkedBy, check}
 use Rattle.calculus.specs.Demands.{Refusals}
 use Rattle.calculus.proofs.ReadsWritten.{reads}
 use Rattle.calculus.proofs.Questions.{questions}
@@ -53,11 +53,11 @@ module _ (bytes : List ℕ) (is : Bytes bytes) where
   module _ (assignment : List ℕ) (are : Bytes assignment) where
     -- with a problem and an assignment the check says HOLDS or FAILS
     tested : (prob : Problem) (g : Handed) → read bytes ≡ parsed prob → readAssignment prob assignment ≡ parsed g
-        → check bytes assignment ≡ found (parsed (lowest (values prob (assignmentOf g) (λ _. pos 0)) 0 (prob .constraints)))
+        → check bytes assignment ≡ checkedBy (parsed (lowest (values prob (assignmentOf g) (λ _. pos 0)) 0 (prob .constraints)))
     unfolding check _>>=_
     tested prob g p q = rw (p, q) refl
 
-    not-declined : (n : ℕ) (o : Option ℕ) → found (parsed o) ≡ declined n → {X : Type 0} → X
+    not-declined : (n : ℕ) (o : Option ℕ) → checkedBy (parsed o) ≡ declined n → {X : Type 0} → X
     not-declined n none e = let w : false ≡ true = cc in absurd (false≢true w)
     not-declined n (some i) e = let w : false ≡ true = cc in absurd (false≢true w)
 

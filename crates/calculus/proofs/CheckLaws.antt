@@ -18,7 +18,7 @@ use Rattle.calculus.proofs.ConstraintLaws.{InScope}
 use Rattle.calculus.proofs.Bools.{and-l, and-r, and-i, clash, test, each-all, all-each, not-f}
 use Rattle.calculus.proofs.Tables.{relation-none}
 use Rattle.calculus.proofs.Truth.{eqZ, Reflects, is, isnt, reflects, eqZ-eq, eq-eqZ, has-in, in-has, relates-test, test-relates}
-use Rattle.calculus.proofs.RuleLaws.{Lists, Good}
+use Rattle.calculus.proofs.RuleLaws.{Lists, Meant}
 use Rattle.calculus.proofs.ConstraintLaws.{all-in, interval-lists, images-in}
 
 -- a test that is true exactly where the statement is

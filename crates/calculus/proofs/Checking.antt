@@ -15,7 +15,7 @@ use Rattle.calculus.specs.Meaning.{Constraint, member, Valuation, Holds}
 use Rattle.calculus.specs.Check.{readAssignment, assignmentOf, holds?, lowest}
 use Rattle.calculus.specs.Problem.{Problem, Valid, Assignment, values, Satisfies}
 use Rattle.calculus.specs.Reading.{Parsed, parsed, refused, _>>=_, read}
-use Rattle.calculus.specs.Calls.{Checked, declined, HOLDS, FAILS, found, check}
+use Rattle.calculus.specs.Calls.{Checked, declined, HOLDS, FAILS, checkedBy, check}
 use Rattle.calculus.specs.Demands.{Checks}
 use Rattle.calculus.proofs.Truth.{Reflects, is, isnt, yes-of}
 use Rattle.calculus.proofs.CheckLaws.{holds-is}
@@ -73,11 +73,11 @@ module _ (prob : Problem) (acc : Valid prob) (v : Valuation) (mine : (p : ℕ) �
       let y : a .0 ≡ i = omega (arith, a .1) in
       subst (λ (x : ℕ). (x < length ls) × ¬ Holds v (constraint ls x) × ((k : ℕ) → k < x → Holds v (constraint ls k))) y (a .2, a .3, a .4)
 
-found-holds : (o : Option ℕ) → found (parsed o) ≡ HOLDS → o ≡ none
+found-holds : (o : Option ℕ) → checkedBy (parsed o) ≡ HOLDS → o ≡ none
 found-holds none e = refl
 found-holds (some i) e = let w : false ≡ true = cc in absurd (false≢true w)
 
-found-fails : (o : Option ℕ) (i : ℕ) → found (parsed o) ≡ FAILS i → o ≡ some i
+found-fails : (o : Option ℕ) (i : ℕ) → checkedBy (parsed o) ≡ FAILS i → o ≡ some i
 found-fails none i e = let w : false ≡ true = cc in absurd (false≢true w)
 found-fails (some j) i e = let z : j ≡ i = cc in ap some z
 
@@ -93,11 +93,11 @@ checks bytes assignment = (
         let mine = own prob acc (assignmentOf g) (λ _. pos 0) in
         let o : Option ℕ = lowest v 0 (prob .constraints) in
         let a = answers prob acc v mine (prob .constraints) 0 (acc .refers) in
-        let is : check bytes assignment ≡ found (parsed o) = rw (e, f) in (
-          ((λ h. subst (Answers prob acc v mine 0 (prob .constraints)) (found-holds o (sym is ∙ h)) a), (λ h. is ∙ ap (λ (x : Option ℕ). found (parsed x)) (all-hold prob acc v mine (prob .constraints) o a h))),
+        let is : check bytes assignment ≡ checkedBy (parsed o) = rw (e, f) in (
+          ((λ h. subst (Answers prob acc v mine 0 (prob .constraints)) (found-holds o (sym is ∙ h)) a), (λ h. is ∙ ap (λ (x : Option ℕ). checkedBy (parsed x)) (all-hold prob acc v mine (prob .constraints) o a h))),
           (λ i. (
             (λ h. fails-one prob acc v mine (prob .constraints) o a i (found-fails o i (sym is ∙ h))),
-            (λ h. is ∙ ap (λ (x : Option ℕ). found (parsed x)) (one-fails prob acc v mine (prob .constraints) o a i (h .0) (h .1) (h .2))),
+            (λ h. is ∙ ap (λ (x : Option ℕ). checkedBy (parsed x)) (one-fails prob acc v mine (prob .constraints) o a i (h .0) (h .1) (h .2))),
           )),
         )),
   )),

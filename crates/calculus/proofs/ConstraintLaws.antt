@@ -21,7 +21,7 @@ use Rattle.calculus.specs.Invariants.{ConstraintIn}
 use Rattle.calculus.proofs.Bools.{and-l, and-r, and-i, or-cases, clash, test, each-all, all-each, Each-imp, Each-zip}
 use Rattle.calculus.proofs.Tables.{relation-none}
 use Rattle.calculus.proofs.Truth.{has, has-in, in-has, relates-test, test-relates, Is, Distinct}
-use Rattle.calculus.proofs.RuleLaws.{Lists, Good}
+use Rattle.calculus.proofs.RuleLaws.{Lists, Meant}
 use Rattle.calculus.proofs.Sequences.{terms-each, terms-at, place-of, from-image, image-of}
 use Rattle.calculus.proofs.Integers.{rising-le, le-rising, rising-inj}
 
@@ -167,7 +167,7 @@ module _ (prob : Problem) (acc : Valid prob) where
     )
 
     -- what the rules use is what the constraints say
-    pub good-holds : (l : Constraint) → InScope prob l → Good v l → Holds v l
+    pub good-holds : (l : Constraint) → InScope prob l → Meant v l → Holds v l
     good-holds (member t A) a g = g
     good-holds (nonmember t A) a g = g
     good-holds (same t u) a g = g
@@ -242,7 +242,7 @@ module _ (prob : Problem) (acc : Valid prob) where
     num-witness : (f : Term → ℤ) (w : ℕ) → nameable prob ≤ w → values prob g f .num (term w) ≡ f (term w)
     num-witness f w l = rw (le-ltb w K (omega arith), le-ltb w (nameable prob) l)
 
-    broken-good : (f : Term → ℤ) (l : Constraint) → InScope prob l → Broken f l × Holds (values prob g f) l → Good (values prob g f) l
+    broken-good : (f : Term → ℤ) (l : Constraint) → InScope prob l → Broken f l × Holds (values prob g f) l → Meant (values prob g f) l
     broken-good f (member t A) a h = h .1
     broken-good f (nonmember t A) a h = h .1
     broken-good f (same t u) a h = h .1
@@ -253,13 +253,13 @@ module _ (prob : Problem) (acc : Valid prob) where
     broken-good f (interval A i j es) a h = interval-lists (values prob g f) (own f) A i j es a .0 (h .1)
 
     -- a solution, with numbers for the witnesses
-    pub witnessed : Satisfies prob g → (f : Term → ℤ) × Each (Holds (values prob g f)) (prob .constraints) × Each (Good (values prob g f)) (prob .constraints)
+    pub witnessed : Satisfies prob g → (f : Term → ℤ) × Each (Holds (values prob g f)) (prob .constraints) × Each (Meant (values prob g f)) (prob .constraints)
     witnessed h =
         let r = chosen (λ _. pos 0) (prob .constraints) (nameable prob) (termCount prob) (le-refl (nameable prob)) (acc .numbered) h in
         let f : Term → ℤ = r .0 in
         let hf : Each (Holds (values prob g f)) (prob .constraints) = Each-zip (InScope prob) (Holds (values prob g (λ _. pos 0))) (Holds (values prob g f)) (prob .constraints) (λ l a q. holds-any (λ _. pos 0) f l a q) (acc .refers) h in (
           f,
           hf,
-          Each-zip (InScope prob) (λ l. Broken f l × Holds (values prob g f) l) (Good (values prob g f)) (prob .constraints) (broken-good f) (acc .refers)
+          Each-zip (InScope prob) (λ l. Broken f l × Holds (values prob g f) l) (Meant (values prob g f)) (prob .constraints) (broken-good f) (acc .refers)
               (Each-zip (Broken f) (Holds (values prob g f)) (λ l. Broken f l × Holds (values prob g f) l) (prob .constraints) (λ l x y. (x, y)) (r .1) hf),
         )

@@ -14,7 +14,7 @@ use Rattle.calculus.specs.Lists.{bit, upFrom, first, Each, Some, here, t
 use Rattle.calculus.specs.Meaning.{Constraint, member, nonmember, same, different, relation, negation, exactly, interval, Valuation}
 use Rattle.calculus.specs.Relations.{Rule, Literal, Operand, propagationRows, splitRows, operandOf}
 use Rattle.calculus.specs.Branch.{Branch, start, rootAt, inside, outside, Fact, In, Out, Same, known}
-use Rattle.calculus.specs.Search.{Move, over, propagations, splits, places, rootsOf, candidates, Candidate, Next, solved, step, next}
+use Rattle.calculus.specs.Search.{Move, atRoots, propagations, splits, places, rootsOf, candidates, Candidate, Next, solved, step, next}
 use Rattle.calculus.specs.Run.{Event, formed, stepped, log}
 use Rattle.calculus.specs.Invariants.{ConstraintIn}
 use Rattle.calculus.proofs.BranchForms.{formsOf}
@@ -23,7 +23,7 @@ use Rattle.calculus.proofs.Masks.{bit-zero}
 use Rattle.calculus.proofs.Truth.{truth, Sat, Distinct, eq-eqZ}
 use Rattle.calculus.proofs.Asserting.{WellFormed, below}
 use Rattle.calculus.proofs.Measure.{measure, weight, undecided, sumBelow, sum-le, sum-const}
-use Rattle.calculus.proofs.RuleLaws.{Good}
+use Rattle.calculus.proofs.RuleLaws.{Meant}
 use Rattle.calculus.proofs.Stepping.{step-fit, step-sat, solved-full}
 
 -- ---- forms in a log
@@ -58,7 +58,7 @@ module _ (n : ℕ) (k : List Term) (m : ℕ) (ls : List Constraint) (li : Each (
       go (inr p) ih = rw (formsOf-app (f c) (gather f cs)) (Some-app-r (Sat v) (formsOf (f c)) (formsOf (gather f cs)) (ih p))
 
   -- values that satisfy a branch satisfy one of its forms
-  pub log-sat : (v : Valuation) → Distinct k v → Each (Good v) ls → (fuel : ℕ) (b : Branch) → WellFormed n k b → Sat v b → Some (Sat v) (formsOf (log n k ls fuel b))
+  pub log-sat : (v : Valuation) → Distinct k v → Each (Meant v) ls → (fuel : ℕ) (b : Branch) → WellFormed n k b → Sat v b → Some (Sat v) (formsOf (log n k ls fuel b))
   log-sat v d g zero b F s = here s
   log-sat v d g (suc fuel) b F s = go (next n k ls b) refl (log-sat v d g fuel)
     where
@@ -90,7 +90,7 @@ module _ (n : ℕ) (k : List Term) (m : ℕ) (ls : List Constraint) (li : Each (
       go (suc (suc j)) q = omega (arith, go (suc j) (omega arith))
 
 -- with no term there is no move
-no-over : (s : Operand → SetVar) (rs : List (Rule Literal)) → over [] s rs ≡ []
+no-over : (s : Operand → SetVar) (rs : List (Rule Literal)) → atRoots [] s rs ≡ []
 no-over s [] = refl
 no-over s (r ∷ rs) = no-over s rs
 

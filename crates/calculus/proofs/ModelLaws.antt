@@ -14,14 +14,14 @@ use Rattle.calculus.specs.Relations.{Rule, applies, propagation, choice,
 use Rattle.calculus.specs.Relations as R
 use Rattle.calculus.specs.Meaning.{Constraint, member, nonmember, same, different, relation, negation, exactly, interval, _∈_, Valuation, Relates}
 use Rattle.calculus.specs.Branch.{Branch, rootAt, root, inside, outside, Fact, In, Out, Same, known}
-use Rattle.calculus.specs.Search.{Move, factOf, at, over, distinct, listing, choose, choosing, propagations, splits, rootsOf}
+use Rattle.calculus.specs.Search.{Move, factOf, at, atRoots, distinct, entering, choose, choosing, propagations, splits, rootsOf}
 use Rattle.calculus.specs.Invariants.{ConstraintIn}
 use Rattle.calculus.proofs.BranchForms.{AgreesBranch}
 use Rattle.calculus.proofs.Bools.{and-l, and-r, and-i, or-cases, or-none-l, or-none-r, imp-at, imp-i, clash, test, same-test, not-t, not-f, each-all, all-each, all-map, any-map, Each-app, Each-left, Each-right, Each-all, Each-imp, Each-map, map-Each, gather-Each}
 use Rattle.calculus.proofs.Tables.{rows-full, negation-full, relation-none}
 use Rattle.calculus.proofs.Truth.{eqZ, eq-eqZ, has, has-in, in-has, test-relates, truth, Sat}
 use Rattle.calculus.proofs.Asserting.{WellFormed, below, still}
-use Rattle.calculus.proofs.RuleLaws.{applies-map, known-fact, Lists, Good}
+use Rattle.calculus.proofs.RuleLaws.{applies-map, known-fact, Lists, Meant}
 use Rattle.calculus.proofs.Stepping.{IsRoot, roots-each, roots-at}
 use Rattle.calculus.proofs.Sequences.{keep-each, keep-at, from-image, image-of}
 
@@ -86,7 +86,7 @@ module _ (val : Term → ℤ) where
     at-idle : (h : Term) (s : Operand → SetVar) (r : Rule Literal) → Idle (at h s r) → applies (litKnown (λ p. known b (In h (s p))) (λ p. known b (Out h (s p)))) r ≡ false
     at-idle h s r e = ap (λ (q : Literal → Bool). applies q r) (sym (known-fact b h s)) ∙ sym (applies-map (factOf h s) (known b) r) ∙ e
 
-    over-idle : (s : Operand → SetVar) (rs : List (Rule Literal)) → Each (λ (p : Term × Move). Idle (p .1)) (over (rootsOf n b) s rs) → (h : Term) → IsRoot n b h
+    over-idle : (s : Operand → SetVar) (rs : List (Rule Literal)) → Each (λ (p : Term × Move). Idle (p .1)) (atRoots (rootsOf n b) s rs) → (h : Term) → IsRoot n b h
         → Each (λ r. not (applies (litKnown (λ p. known b (In h (s p))) (λ p. known b (Out h (s p)))) r) ≡ true) rs
     over-idle s rs e h i =
         Each-imp (λ r. Each (λ (p : Term × Move). Idle (p .1)) (map (λ (h : Term). (h, at h s r)) (rootsOf n b))) (λ r. not (applies (litKnown (λ p. known b (In h (s p))) (λ p. known b (Out h (s p)))) r) ≡ true) rs
@@ -97,7 +97,7 @@ module _ (val : Term → ℤ) where
     clean-at h s p = F .clean (rootAt b (h .index)) (s p)
 
     -- the relation holds at a root
-    relation-root : (K : Relation) (A B C : SetVar) → Each (λ (p : Term × Move). Idle (p .1)) (over (rootsOf n b) (operandOf A B C) (propagationRows K)) → Each (λ (p : Term × Move). Idle (p .1)) (over (rootsOf n b) (operandOf A B C) (splitRows K))
+    relation-root : (K : Relation) (A B C : SetVar) → Each (λ (p : Term × Move). Idle (p .1)) (atRoots (rootsOf n b) (operandOf A B C) (propagationRows K)) → Each (λ (p : Term × Move). Idle (p .1)) (atRoots (rootsOf n b) (operandOf A B C) (splitRows K))
         → (h : Term) → IsRoot n b h → holdsAt K (has (w .members A) (val h)) (has (w .members B) (val h)) (has (w .members C) (val h)) ≡ true
     relation-root K A B C f s h i =
         let t = rows-full (λ p. known b (In h (operandOf A B C p))) (λ p. known b (Out h (operandOf A B C p))) (clean-at h (operandOf A B C)) K
@@ -137,12 +137,12 @@ module _ (val : Term → ℤ) where
         let z : any (all (known b)) (map (λ (e : Term). Same h e ∷ []) es) ≡ true = not-f (any (all (known b)) (map (λ (e : Term). Same h e ∷ []) es)) (rw k at q) in
         subst (λ (j : ℕ). val (term j) ∈ map (w .num) es) (i .1) (known-entry h es z)
 
-    entries-in : (A : SetVar) (es : List Term) → Each (λ e. e .index < n) es → Each (λ (p : Term × Move). Idle (p .1)) (listing (rootsOf n b) b A es) → (x : ℤ) → x ∈ map (w .num) es → x ∈ w .members A
+    entries-in : (A : SetVar) (es : List Term) → Each (λ e. e .index < n) es → Each (λ (p : Term × Move). Idle (p .1)) (entering (rootsOf n b) b A es) → (x : ℤ) → x ∈ map (w .num) es → x ∈ w .members A
     entries-in A [] l q x m = absurd m
     entries-in A (e ∷ es) l q x (inl z) = subst (λ (y : ℤ). y ∈ w .members A) (sym z) (to-member A (root b e) (is-root e (l .0)) (propagation-known 19 (In e A) (q .0)))
     entries-in A (e ∷ es) l q x (inr z) = entries-in A es (l .1) (q .1) x z
 
-    exact : (A : SetVar) (es : List Term) → Each (λ e. e .index < n) es → Each (λ (p : Term × Move). Idle (p .1)) (listing (rootsOf n b) b A es) → Each (λ (p : Term × Move). Idle (p .1)) (choosing (rootsOf n b) b A es) → Lists w A es
+    exact : (A : SetVar) (es : List Term) → Each (λ e. e .index < n) es → Each (λ (p : Term × Move). Idle (p .1)) (entering (rootsOf n b) b A es) → Each (λ (p : Term × Move). Idle (p .1)) (choosing (rootsOf n b) b A es) → Lists w A es
     exact A es l f s x = (
       λ m. let z = from-member A x m in
           subst (λ (y : ℤ). y ∈ map (w .num) es) (sym (z .2))
@@ -151,7 +151,7 @@ module _ (val : Term → ℤ) where
     )
 
     -- every constraint is true of the model
-    pub model-good : (m : ℕ) (l : Constraint) → ConstraintIn n m l → Each (λ (p : Term × Move). Idle (p .1)) (propagations (rootsOf n b) b l) → Each (λ (p : Term × Move). Idle (p .1)) (splits (rootsOf n b) b l) → Good w l
+    pub model-good : (m : ℕ) (l : Constraint) → ConstraintIn n m l → Each (λ (p : Term × Move). Idle (p .1)) (propagations (rootsOf n b) b l) → Each (λ (p : Term × Move). Idle (p .1)) (splits (rootsOf n b) b l) → Meant w l
     model-good m (member t A) r f s = has-in (w .members A) (w .num t) (has-term t A (r .0) ∙ propagation-known 1 (In t A) (f .0))
     model-good m (nonmember t A) r f s = λ x. clash (in-has (w .members A) (w .num t) x) (out-term t A (r .0) (propagation-known 2 (Out t A) (f .0)))
     model-good m (same t u) r f s = ap (λ (y : ℕ). val (term y)) (eqb-true (rootAt b (t .index)) (rootAt b (u .index)) (propagation-known 3 (Same t u) (f .0)))

@@ -16,7 +16,7 @@ use Rattle.calculus.specs.Relations.{Rule, applies, propagation, choice,
 use Rattle.calculus.specs.Relations as R
 use Rattle.calculus.specs.Meaning.{Constraint, member, nonmember, same, different, relation, negation, exactly, interval, _∈_, Valuation, Holds, Relates}
 use Rattle.calculus.specs.Branch.{Branch, rootAt, root, inside, outside, Fact, In, Out, Same, known}
-use Rattle.calculus.specs.Search.{Move, factOf, at, over, distinct, listing, choose, choosing, propagations, splits, rootsOf}
+use Rattle.calculus.specs.Search.{Move, factOf, at, atRoots, distinct, entering, choose, choosing, propagations, splits, rootsOf}
 use Rattle.calculus.proofs.Bools.{and-l, and-r, and-i, or-cases, or-l, or-r, or-none-l, imp-at, imp-i, clash, test, not-t, not-f, each-all, all-each, all-map, any-map, Each-app, Each-left, Each-right, Each-all, Each-imp, Each-map, Each-gather}
 use Rattle.calculus.proofs.Tables.{litTrue, rows-sound, negation-sound, rows-add}
 use Rattle.calculus.proofs.Truth.{eqZ, eqZ-eq, eq-eqZ, has, has-in, in-has, relates-test, truth, Sat}
@@ -52,15 +52,15 @@ abbrev pub Lists : Valuation → SetVar → List Term → Type 0
 Lists v A es = (x : ℤ) → x ∈ v .members A ↔ x ∈ map (v .num) es
 
 -- what the rules use: a failing relation fails at the witness, an interval is its entries
-abbrev pub Good : Valuation → Constraint → Type 0
-Good v (member t A) = v .num t ∈ v .members A
-Good v (nonmember t A) = ¬ (v .num t ∈ v .members A)
-Good v (same t u) = v .num t ≡ v .num u
-Good v (different t u) = ¬ (v .num t ≡ v .num u)
-Good v (relation k A B C) = Relates k (v .members A) (v .members B) (v .members C)
-Good v (negation k A B C w) = holdsAt (denies k) (has (v .members A) (v .num w)) (has (v .members B) (v .num w)) (has (v .members C) (v .num w)) ≡ false
-Good v (exactly A es) = Lists v A es
-Good v (interval A i j es) = Lists v A es
+abbrev pub Meant : Valuation → Constraint → Type 0
+Meant v (member t A) = v .num t ∈ v .members A
+Meant v (nonmember t A) = ¬ (v .num t ∈ v .members A)
+Meant v (same t u) = v .num t ≡ v .num u
+Meant v (different t u) = ¬ (v .num t ≡ v .num u)
+Meant v (relation k A B C) = Relates k (v .members A) (v .members B) (v .members C)
+Meant v (negation k A B C w) = holdsAt (denies k) (has (v .members A) (v .num w)) (has (v .members B) (v .num w)) (has (v .members C) (v .num w)) ≡ false
+Meant v (exactly A es) = Lists v A es
+Meant v (interval A i j es) = Lists v A es
 
 -- ---- soundness
 
@@ -70,7 +70,7 @@ module _ (P : Term → Rule Literal → Type 0) where
   Each-swap (r ∷ rs) f = (λ h. f h .0, Each-swap rs (λ h. f h .1))
 
 -- every row at every root
-pub over-each : (Q : Move → Type 0) (s : Operand → SetVar) (hs : List Term) (rs : List (Rule Literal)) → Each (λ r. Each (λ h. Q (at h s r)) hs) rs → Each (λ (p : Term × Move). Q (p .1)) (over hs s rs)
+pub over-each : (Q : Move → Type 0) (s : Operand → SetVar) (hs : List Term) (rs : List (Rule Literal)) → Each (λ r. Each (λ h. Q (at h s r)) hs) rs → Each (λ (p : Term × Move). Q (p .1)) (atRoots hs s rs)
 over-each Q s hs rs e = Each-gather (λ (p : Term × Move). Q (p .1)) (λ (r : Rule Literal). map (λ (h : Term). (h, at h s r)) hs) rs
     (Each-imp (λ r. Each (λ h. Q (at h s r)) hs) (λ r. Each (λ (p : Term × Move). Q (p .1)) (map (λ (h : Term). (h, at h s r)) hs)) rs
     (λ r f. Each-map (λ (p : Term × Move). Q (p .1)) (λ (h : Term). (h, at h s r)) hs f) e)
@@ -89,7 +89,7 @@ module _ (v : Valuation) where
       (each-all (sound (litTrue (λ p. has (v .members (operandOf A B C p)) (v .num h)))) (rows k)
       (rows-sound k (λ p. has (v .members (operandOf A B C p)) (v .num h)) (relates-test k (v .members A) (v .members B) (v .members C) g (v .num h))))
 
-  over-sound : (k : Relation) (A B C : SetVar) (hs : List Term) (rs : List (Rule Literal)) → ((h : Term) → Each (λ r. Sound (at h (operandOf A B C) r)) rs) → Each (λ (p : Term × Move). Sound (p .1)) (over hs (operandOf A B C) rs)
+  over-sound : (k : Relation) (A B C : SetVar) (hs : List Term) (rs : List (Rule Literal)) → ((h : Term) → Each (λ r. Sound (at h (operandOf A B C) r)) rs) → Each (λ (p : Term × Move). Sound (p .1)) (atRoots hs (operandOf A B C) rs)
   over-sound k A B C hs rs f =
       over-each Sound (operandOf A B C) hs rs
       (Each-imp (λ r. (h : Term) → Sound (at h (operandOf A B C) r)) (λ r. Each (λ h. Sound (at h (operandOf A B C) r)) hs) rs (λ r g. Each-all (λ h. Sound (at h (operandOf A B C) r)) g hs)
@@ -103,8 +103,8 @@ module _ (v : Valuation) where
   in-all A [] f = tt
   in-all A (e ∷ es) f = (in-has (v .members A) (v .num e) (f (v .num e) (inl refl)), in-all A es (λ x h. f x (inr h)))
 
-  listing-sound : (b : Branch) (hs : List Term) (A : SetVar) (es : List Term) → Lists v A es → Each (λ (p : Term × Move). Sound (p .1)) (listing hs b A es)
-  listing-sound b hs A es g = Each-map (λ (p : Term × Move). Sound (p .1)) (λ (e : Term). (root b e, propagation 19 [] (In e A))) es
+  entering-sound : (b : Branch) (hs : List Term) (A : SetVar) (es : List Term) → Lists v A es → Each (λ (p : Term × Move). Sound (p .1)) (entering hs b A es)
+  entering-sound b hs A es g = Each-map (λ (p : Term × Move). Sound (p .1)) (λ (e : Term). (root b e, propagation 19 [] (In e A))) es
       (Each-imp (λ e. truth v (In e A) ≡ true) (λ e. Sound (propagation 19 [] (In e A))) es (λ e q. propagation-sound 19 [] (In e A) q) (in-all A es (λ x. g x .1)))
 
   module _ (b : Branch) (n : ℕ) (k : List Term) (F : WellFormed n k b) (s : Sat v b) where
@@ -152,7 +152,7 @@ module _ (v : Valuation) where
     choosing-sound hs A es g = Each-map (λ (p : Term × Move). Sound (p .1)) (λ (h : Term). (h, choose hs b A es h)) hs (Each-all (λ h. Sound (choose hs b A es h)) (choose-sound hs A es g) hs)
 
     module _ (hs : List Term) where
-      pub propagations-sound : (l : Constraint) → Good v l → Each (λ (p : Term × Move). Sound (p .1)) (propagations hs b l)
+      pub propagations-sound : (l : Constraint) → Meant v l → Each (λ (p : Term × Move). Sound (p .1)) (propagations hs b l)
       propagations-sound (member t A) g = (propagation-sound 1 [] (In t A) (in-has (v .members A) (v .num t) g), tt)
       propagations-sound (nonmember t A) g = (propagation-sound 2 [] (Out t A) (rw (not-has t A g)), tt)
         where
@@ -166,10 +166,10 @@ module _ (v : Valuation) where
       propagations-sound (different t u) g = (imp-i (truth v (Same t u) && true) false (λ e. absurd (g (eqZ-eq (v .num t) (v .num u) (and-l (truth v (Same t u)) true e)))), tt)
       propagations-sound (relation k A B C) g = over-sound k A B C hs (propagationRows k) (λ h. Each-left (λ r. Sound (at h (operandOf A B C) r)) (propagationRows k) (splitRows k) (rows-each k A B C g h))
       propagations-sound (negation k A B C w) g = tt
-      propagations-sound (exactly A es) g = listing-sound b hs A es g
-      propagations-sound (interval A i j es) g = listing-sound b hs A es g
+      propagations-sound (exactly A es) g = entering-sound b hs A es g
+      propagations-sound (interval A i j es) g = entering-sound b hs A es g
 
-      pub splits-sound : (l : Constraint) → Good v l → Each (λ (p : Term × Move). Sound (p .1)) (splits hs b l)
+      pub splits-sound : (l : Constraint) → Meant v l → Each (λ (p : Term × Move). Sound (p .1)) (splits hs b l)
       splits-sound (member t A) g = tt
       splits-sound (nonmember t A) g = tt
       splits-sound (same t u) g = tt

@@ -13,7 +13,7 @@ use Rattle.calculus.specs.Terms.{Term, SetVar, term}
 use Rattle.calculus.specs.Relations.{Rule, propagation, Relation, equal, union, disjoint, subset, intersection, unequal, Operand, Literal, propagationRows, splitRows, negationRow, operandOf}
 use Rattle.calculus.specs.Meaning.{Constraint, member, nonmember, same, different, relation, negation, exactly, interval}
 use Rattle.calculus.specs.Branch.{Branch, rootAt, root, Fact, In, Out, Same}
-use Rattle.calculus.specs.Search.{Move, at, over, distinct, listing, choose, propagations, splits, rootsOf}
+use Rattle.calculus.specs.Search.{Move, at, atRoots, distinct, entering, choose, propagations, splits, rootsOf}
 use Rattle.calculus.specs.Order.{OneClass, Place, Root, Fires, rule1, rule2, rule3, rule4, rule5, rule6, rule7, rule8, rule9, rule10, rule11, rule12, rule13, rule14, rule15, rule16, rule17, rule18, rule19, rule20, by-list, by-interval}
 use Rattle.calculus.proofs.ChildrenLeft.{classes}
 use Rattle.calculus.proofs.Enumerating.{Where, candidate, Placed, before-rule, Enum, enum-nil, enum-join, Yes, Ready, Lists, lists-iff, Spot, Run, spots}
@@ -58,8 +58,8 @@ module _ (n : ℕ) (b : Branch) where
   abbrev inSet : SetVar → Term → Term × Move
   inSet A e = (root b e, propagation 19 [] (In e A))
 
-  abbrev Listing : SetVar → List Term → Where
-  Listing A es = Spot b (λ p. p < length es) (λ p. inSet A (getD es p (term 0)))
+  abbrev Entering : SetVar → List Term → Where
+  Entering A es = Spot b (λ p. p < length es) (λ p. inSet A (getD es p (term 0)))
 
   abbrev Choosing : SetVar → List Term → Where
   Choosing A es = AtRoots (choose (rootsOf n b) b A es)
@@ -71,8 +71,8 @@ module _ (n : ℕ) (b : Branch) where
   Propagated (different t u) = Once (root b t) (record { rule = 4; premises = Same t u ∷ []; blockers = []; alternatives = [] })
   Propagated (relation k A B C) = AtRows (operandOf A B C) (propagationRows k)
   Propagated (negation k A B C w) = λ _ _ _ _. ⊥
-  Propagated (exactly A es) = Listing A es
-  Propagated (interval A i j es) = Listing A es
+  Propagated (exactly A es) = Entering A es
+  Propagated (interval A i j es) = Entering A es
 
   abbrev pub Split : Constraint → Where
   Split (member t A) = λ _ _ _ _. ⊥
@@ -106,11 +106,11 @@ module _ (n : ℕ) (b : Branch) where
     above o k (x ∷ xs) a r s w gs (inl y) = omega (arith, a .0, y .1)
     above o k (x ∷ xs) a r s w gs (inr y) = let z = above o (x .rule) xs (a .1) r s w gs y in omega (arith, z, a .0)
 
-    at-rows : (o : Operand → SetVar) (k : ℕ) (xs : List (Rule Literal)) → Rising k xs → Lists b i L (over (rootsOf n b) o xs) (AtRows o xs)
+    at-rows : (o : Operand → SetVar) (k : ℕ) (xs : List (Rule Literal)) → Rising k xs → Lists b i L (atRoots (rootsOf n b) o xs) (AtRows o xs)
     at-rows o k [] a = enum-nil b (Placed i L (AtRows o [])) (λ p x. x .2)
     at-rows o k (x ∷ xs) a =
-        subst (λ cs. Enum b cs (Placed i L (AtRows o (x ∷ xs)))) (sym (map-append (candidate i) (map (λ (h : Term). (h, at h o x)) (rootsOf n b)) (over (rootsOf n b) o xs)))
-        (enum-join b (map (candidate i) (map (λ (h : Term). (h, at h o x)) (rootsOf n b))) (map (candidate i) (over (rootsOf n b) o xs)) (Placed i L (AtRoots (λ h. at h o x))) (Placed i L (AtRows o xs)) (Placed i L (AtRows o (x ∷ xs)))
+        subst (λ cs. Enum b cs (Placed i L (AtRows o (x ∷ xs)))) (sym (map-append (candidate i) (map (λ (h : Term). (h, at h o x)) (rootsOf n b)) (atRoots (rootsOf n b) o xs)))
+        (enum-join b (map (candidate i) (map (λ (h : Term). (h, at h o x)) (rootsOf n b))) (map (candidate i) (atRoots (rootsOf n b) o xs)) (Placed i L (AtRoots (λ h. at h o x))) (Placed i L (AtRows o xs)) (Placed i L (AtRows o (x ∷ xs)))
         (at-roots (x .rule) (λ h. at h o x) (λ _. refl)) (at-rows o (x .rule) xs (a .1)) join part
         (λ p q y z. before-rule p q (y .0 ∙ sym (z .0)) (y .1 ∙ sym (z .1)) (let u = above o (x .rule) xs (a .1) (q .rule) (q .position) (q .concerned) (q .alternatives) (z .2) in omega (arith, u, y .2 .1))))
       where
@@ -122,10 +122,10 @@ module _ (n : ℕ) (b : Branch) where
         part p (e, f, inl y) = inl (e, f, y)
         part p (e, f, inr y) = inr (e, f, y)
 
-    at-entries : (A : SetVar) (es : List Term) → Lists b i L (listing (rootsOf n b) b A es) (Listing A es)
-    at-entries A es = lists-iff b i L (listing (rootsOf n b) b A es) (Run b (λ _. true) (λ p. getD es p (term 0)) (inSet A) 0 (length es)) (Listing A es)
+    at-entries : (A : SetVar) (es : List Term) → Lists b i L (entering (rootsOf n b) b A es) (Entering A es)
+    at-entries A es = lists-iff b i L (entering (rootsOf n b) b A es) (Run b (λ _. true) (λ p. getD es p (term 0)) (inSet A) 0 (length es)) (Entering A es)
         (λ r s v gs x. (omega (arith, x .0 .1), x .1, x .2, x .3, x .4)) (λ r s v gs x. ((omega arith, omega (arith, x .0), refl), x .1, x .2, x .3, x .4))
-        (subst (λ ds. Lists b i L (listing (rootsOf n b) b A ds) (Run b (λ _. true) (λ p. getD es p (term 0)) (inSet A) 0 (length es))) (by-position es (λ p. getD es p (term 0)) 0 (λ p l. ap (λ k. getD es k (term 0)) (omega arith)))
+        (subst (λ ds. Lists b i L (entering (rootsOf n b) b A ds) (Run b (λ _. true) (λ p. getD es p (term 0)) (inSet A) 0 (length es))) (by-position es (λ p. getD es p (term 0)) 0 (λ p l. ap (λ k. getD es k (term 0)) (omega arith)))
         (spots b i L 19 (λ _. true) (λ p. getD es p (term 0)) (inSet A) (λ _. refl) (length es) 0))
 
   pub lists-propagations : (i : ℕ) (l : Constraint) → Lists b i 0 (propagations (rootsOf n b) b l) (Propagated l)

@@ -27,7 +27,7 @@ use Rattle.calculus.proofs.Bools.{Each-imp, Each-zip, first-some, first
 use Rattle.calculus.proofs.Truth.{Sat, Is}
 use Rattle.calculus.proofs.Asserting.{WellFormed}
 use Rattle.calculus.proofs.Measure.{measure}
-use Rattle.calculus.proofs.RuleLaws.{Good}
+use Rattle.calculus.proofs.RuleLaws.{Meant}
 use Rattle.calculus.proofs.Stepping.{IsRoot, solved-full}
 use Rattle.calculus.proofs.Sequences.{terms-each, terms-at}
 use Rattle.calculus.proofs.Integers.{rising-inj}
@@ -145,10 +145,10 @@ module _ (prob : Problem) (acc : Valid prob) where
   model-both b F =
       let W : Valuation = modelValues (classValue prob (root b)) N b in
       let U : Valuation = values prob (branchModel prob b) (branchNumber prob b) in
-      let good : Each (Good W) (prob .constraints) = Each-zip (ConstraintIn N M) (λ l. Idles l) (Good W) (prob .constraints) (λ l r q. model-good (classValue prob (root b)) N Q b (F .0) (class-inj b) M l r (q .0) (q .1)) (constraints-in prob acc) (solved-full N Q M (prob .constraints) (constraints-in prob acc) b (F .0) (F .1)) in
-      let goodU : Each (Good U) (prob .constraints) = subst (λ (v : Valuation). Each (Good v) (prob .constraints)) (model-values b (F .0)) good in (
+      let good : Each (Meant W) (prob .constraints) = Each-zip (ConstraintIn N M) (λ l. Idles l) (Meant W) (prob .constraints) (λ l r q. model-good (classValue prob (root b)) N Q b (F .0) (class-inj b) M l r (q .0) (q .1)) (constraints-in prob acc) (solved-full N Q M (prob .constraints) (constraints-in prob acc) b (F .0) (F .1)) in
+      let goodU : Each (Meant U) (prob .constraints) = subst (λ (v : Valuation). Each (Meant v) (prob .constraints)) (model-values b (F .0)) good in (
         subst (λ (v : Valuation). AgreesBranch N v b) (model-values b (F .0)) (model-agrees (classValue prob (root b)) N Q b (F .0) (class-inj b)),
-        Each-zip (InScope prob) (Good U) (Holds U) (prob .constraints) (good-holds prob acc U (own prob acc (branchModel prob b) (branchNumber prob b))) (acc .refers) goodU,
+        Each-zip (InScope prob) (Meant U) (Holds U) (prob .constraints) (good-holds prob acc U (own prob acc (branchModel prob b) (branchNumber prob b))) (acc .refers) goodU,
       )
     where
       Idles : Constraint → Type 0

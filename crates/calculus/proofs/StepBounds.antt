@@ -12,7 +12,7 @@ use Rattle.calculus.specs.Terms.{Term, SetVar}
 use Rattle.calculus.specs.Relations.{Rule, propagation, Relation, equal, union, disjoint, subset, intersection, Negation, unequal, Operand, Literal, propagationRows, splitRows, negationRow, rows, operandOf}
 use Rattle.calculus.specs.Meaning.{Constraint, member, nonmember, same, different, relation, negation, exactly, interval}
 use Rattle.calculus.specs.Branch.{Branch, rootAt, root, Fact, In, Out, Same, assertAll}
-use Rattle.calculus.specs.Search.{Move, factOf, at, over, distinct, listing, choose, choosing, propagations, splits, rootsOf, Candidate, candidates, places, Next, solved, step, children, next}
+use Rattle.calculus.specs.Search.{Move, factOf, at, atRoots, distinct, entering, choose, choosing, propagations, splits, rootsOf, Candidate, candidates, places, Next, solved, step, children, next}
 use Rattle.calculus.specs.Invariants.{ConstraintIn}
 use Rattle.calculus.proofs.Bools.{and-l, and-r, each-all, Each-app, Each-imp, Each-map, Each-gather}
 use Rattle.calculus.proofs.Asserting.{WellFormed, below}
@@ -55,7 +55,7 @@ module _ (n : ℕ) (k : List Term) (m : ℕ) (b : Branch) (F : WellFormed n k b)
   at-bounded : (h : Term) (s : Operand → SetVar) (r : Rule Literal) → h .index < n → Sized 2 r → Bounded (h, at h s r)
   at-bounded h s r l q = (l, (q .0, omega (arith, q .1, length-map (r .alternatives) (map (factOf h s)))))
 
-  over-bounded : (s : Operand → SetVar) (rs : List (Rule Literal)) → Each (Sized 2) rs → Each Bounded (over (rootsOf n b) s rs)
+  over-bounded : (s : Operand → SetVar) (rs : List (Rule Literal)) → Each (Sized 2) rs → Each Bounded (atRoots (rootsOf n b) s rs)
   over-bounded s rs e = Each-gather Bounded (λ (r : Rule Literal). map (λ (h : Term). (h, at h s r)) (rootsOf n b)) rs
       (Each-imp (Sized 2) (λ r. Each Bounded (map (λ (h : Term). (h, at h s r)) (rootsOf n b))) rs
       (λ r q. Each-map Bounded (λ (h : Term). (h, at h s r)) (rootsOf n b) (Each-imp (IsRoot n b) (λ h. Bounded (h, at h s r)) (rootsOf n b) (λ h i. at-bounded h s r (i .0) q) (roots-each n b))) e)
@@ -63,8 +63,8 @@ module _ (n : ℕ) (k : List Term) (m : ℕ) (b : Branch) (F : WellFormed n k b)
   root-low : (t : Term) → t .index < n → root b t .index < n
   root-low t l = omega (arith, below n k b F (t .index))
 
-  listing-bounded : (A : SetVar) (es : List Term) → Each (λ e. e .index < n) es → Each Bounded (listing (rootsOf n b) b A es)
-  listing-bounded A es en = Each-map Bounded (λ (e : Term). (root b e, propagation 19 [] (In e A))) es (Each-imp (λ e. e .index < n) (λ e. Bounded (root b e, propagation 19 [] (In e A))) es (λ e l. (root-low e l, (omega arith, omega arith))) en)
+  entering-bounded : (A : SetVar) (es : List Term) → Each (λ e. e .index < n) es → Each Bounded (entering (rootsOf n b) b A es)
+  entering-bounded A es en = Each-map Bounded (λ (e : Term). (root b e, propagation 19 [] (In e A))) es (Each-imp (λ e. e .index < n) (λ e. Bounded (root b e, propagation 19 [] (In e A))) es (λ e l. (root-low e l, (omega arith, omega arith))) en)
 
   choosing-bounded : (A : SetVar) (es : List Term) → Each (λ e. e .index < n) es → Each Bounded (choosing (rootsOf n b) b A es)
   choosing-bounded A es en =
@@ -80,8 +80,8 @@ module _ (n : ℕ) (k : List Term) (m : ℕ) (b : Branch) (F : WellFormed n k b)
   propagations-bounded (different t u) r = ((root-low t (r .0), (omega arith, omega arith)), tt)
   propagations-bounded (relation K A B C) r = over-bounded (operandOf A B C) (propagationRows K) (sized-rows (propagationRows K) (propagation-test K))
   propagations-bounded (negation K A B C w) r = tt
-  propagations-bounded (exactly A es) r = listing-bounded A es (r .1)
-  propagations-bounded (interval A i j es) r = listing-bounded A es (r .1)
+  propagations-bounded (exactly A es) r = entering-bounded A es (r .1)
+  propagations-bounded (interval A i j es) r = entering-bounded A es (r .1)
 
   splits-bounded : (l : Constraint) → ConstraintIn n m l → Each Bounded (splits (rootsOf n b) b l)
   splits-bounded (member t A) r = tt

@@ -22,7 +22,7 @@ use Rattle.calculus.proofs.Truth.{truth, Sat, Distinct}
 use Rattle.calculus.proofs.Asserting.{WellFormed, Ranged}
 use Rattle.calculus.proofs.Measure.{measure}
 use Rattle.calculus.proofs.Children.{children-sat, children-fit}
-use Rattle.calculus.proofs.RuleLaws.{Good, propagations-sound, splits-sound}
+use Rattle.calculus.proofs.RuleLaws.{Meant, propagations-sound, splits-sound}
 use Rattle.calculus.proofs.AddingFacts.{Each-keep, Tame, propagations-tame, splits-tame}
 use Rattle.calculus.proofs.Sequences.{terms-each, terms-at, keep-each, keep-at}
 
@@ -145,13 +145,13 @@ module _ (n : ℕ) (k : List Term) (m : ℕ) (ls : List Constraint) (li : Each (
           subst (Each P) z (kids (p .move .alternatives) (t .1))
 
   -- values that satisfy the branch, and of which every constraint is true, satisfy some child
-  pub step-sat : (v : Valuation) → Distinct k v → Sat v b → Each (Good v) ls → (r : List ℕ) (cs : List Branch) → next n k ls b ≡ step r cs → Some (Sat v) cs
+  pub step-sat : (v : Valuation) → Distinct k v → Sat v b → Each (Meant v) ls → (r : List ℕ) (cs : List Branch) → next n k ls b ≡ step r cs → Some (Sat v) cs
   step-sat v d s g r cs e = go (next n k ls b) found e
     where
       all-sound : Each (λ (p : Candidate). sound (truth v) (p .move) ≡ true) (places n ls b)
       all-sound = places-each n ls b (λ mv. sound (truth v) mv ≡ true)
-          (Each-imp (Good v) (OfPropagations n ls b (λ mv. sound (truth v) mv ≡ true)) ls (propagations-sound v b n k F s (rootsOf n b)) g)
-          (Each-imp (Good v) (OfSplits n ls b (λ mv. sound (truth v) mv ≡ true)) ls (splits-sound v b n k F s (rootsOf n b)) g)
+          (Each-imp (Meant v) (OfPropagations n ls b (λ mv. sound (truth v) mv ≡ true)) ls (propagations-sound v b n k F s (rootsOf n b)) g)
+          (Each-imp (Meant v) (OfSplits n ls b (λ mv. sound (truth v) mv ≡ true)) ls (splits-sound v b n k F s (rootsOf n b)) g)
 
       go : (x : Next) → Found x → x ≡ step r cs → Some (Sat v) cs
       go x (nothing _) q = let w : false ≡ true = cc in absurd (false≢true w)

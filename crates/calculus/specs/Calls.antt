@@ -46,13 +46,13 @@ asked bytes budget room = do
   _ ← ask 13 (leb (4 * budget) room)
   parsed prob
 
-abbrev pub left : List ℕ → List ℕ → Tally → Outcome
-left forms trace s = record { answer = ended (verdictOf (s .end) (s .forms)) (s .steps) (s .forms); forms = over (s .records) forms; trace = over (s .trace) trace }
+abbrev pub outcomeLeft : List ℕ → List ℕ → Tally → Outcome
+outcomeLeft forms trace s = record { answer = ended (verdictOf (s .end) (s .forms)) (s .steps) (s .forms); forms = over (s .records) forms; trace = over (s .trace) trace }
 
 -- a refused call writes to no buffer
 abbrev pub answered : ℕ → List ℕ → List ℕ → Parsed Problem → Outcome
 answered budget forms trace (refused n) = record { answer = refusal n; forms = forms; trace = trace }
-answered budget forms trace (parsed prob) = left forms trace (run prob budget (length forms))
+answered budget forms trace (parsed prob) = outcomeLeft forms trace (run prob budget (length forms))
 
 unfoldable pub call : List ℕ → ℕ → List ℕ → List ℕ → Outcome
 call bytes budget forms trace = answered budget forms trace (asked bytes budget (length trace))
@@ -64,13 +64,13 @@ pub data Checked : Type 0 where
   HOLDS : Checked
   FAILS : ℕ → Checked
 
-abbrev pub found : Parsed (Option ℕ) → Checked
-found (refused n) = declined n
-found (parsed none) = HOLDS
-found (parsed (some i)) = FAILS i
+abbrev pub checkedBy : Parsed (Option ℕ) → Checked
+checkedBy (refused n) = declined n
+checkedBy (parsed none) = HOLDS
+checkedBy (parsed (some i)) = FAILS i
 
 unfoldable pub check : List ℕ → List ℕ → Checked
-check bytes assignment = found (do
+check bytes assignment = checkedBy (do
   prob ← read bytes
   g ← readAssignment prob assignment
   parsed (lowest (values prob (assignmentOf g) (λ _. pos 0)) 0 (prob .constraints)))

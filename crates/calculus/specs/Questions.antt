@@ -105,8 +105,8 @@ module _ (cs : List ℤ) (ns ss : List ℕ) where
   N = length cs + length ns
 
   -- constraints of which questions 2 and 7 to 9 are answered "yes"
-  abbrev Good : List Constraint → Type 0
-  Good ls = Each (Refers cs N (length ss)) ls
+  abbrev AllRefer : List Constraint → Type 0
+  AllRefer ls = Each (Refers cs N (length ss)) ls
 
   pub data OfConstraints : List ℕ → ℕ → Type 0 where
     -- Is the count of constraints there? 2
@@ -114,11 +114,11 @@ module _ (cs : List ℤ) (ns ss : List ℕ) where
     -- At most 48? 6
     too-many : (m : ℕ) (rest : List ℕ) → mostConstraints < m → OfConstraints (m ∷ rest) 6
     -- Constraints are asked one by one: of this one, after those that pass.
-    in-constraint : (m n : ℕ) (ls : List Constraint) (rest : List ℕ) → m ≤ mostConstraints → length ls < m → Good ls → OfConstraint cs N (length ss) rest n → OfConstraints (m ∷ (gather encodeConstraint ls ++ rest)) n
+    in-constraint : (m n : ℕ) (ls : List Constraint) (rest : List ℕ) → m ≤ mostConstraints → length ls < m → AllRefer ls → OfConstraint cs N (length ss) rest n → OfConstraints (m ∷ (gather encodeConstraint ls ++ rest)) n
     -- Is nothing left after the last constraint? 10
-    left-over : (ls : List Constraint) (rest : List ℕ) → length ls ≤ mostConstraints → Good ls → 0 < length rest → OfConstraints (length ls ∷ (gather encodeConstraint ls ++ rest)) 10
+    left-over : (ls : List Constraint) (rest : List ℕ) → length ls ≤ mostConstraints → AllRefer ls → 0 < length rest → OfConstraints (length ls ∷ (gather encodeConstraint ls ++ rest)) 10
     -- Is T at most 64? 11
-    many-terms : (ls : List Constraint) → length ls ≤ mostConstraints → Good ls → mostTerms < N + witnessCount ls → OfConstraints (length ls ∷ gather encodeConstraint ls) 11
+    many-terms : (ls : List Constraint) → length ls ≤ mostConstraints → AllRefer ls → mostTerms < N + witnessCount ls → OfConstraints (length ls ∷ gather encodeConstraint ls) 11
 
 -- of these bytes question n is the first that is answered "no"
 abbrev pub FirstNo : List ℕ → ℕ → Type 0

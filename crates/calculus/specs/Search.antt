@@ -25,8 +25,8 @@ factOf h s (R.Out p) = Out h (s p)
 abbrev pub at : Term → (Operand → SetVar) → Rule Literal → Move
 at h s r = mapRule (factOf h s) r
 
-abbrev pub over : List Term → (Operand → SetVar) → List (Rule Literal) → List (Term × Move)
-over hs s rs = gather (λ (r : Rule Literal). map (λ (h : Term). (h, at h s r)) hs) rs
+abbrev pub atRoots : List Term → (Operand → SetVar) → List (Rule Literal) → List (Term × Move)
+atRoots hs s rs = gather (λ (r : Rule Literal). map (λ (h : Term). (h, at h s r)) hs) rs
 
 -- the distinct ones of a list of terms, in order
 abbrev pub distinct : List Term → List Term
@@ -36,8 +36,8 @@ distinct (x ∷ xs) = x ∷ keep (λ (y : Term). not (eqb (y .index) (x .index))
 -- What a constraint offers, each move with the root concerned; hs are the roots of branch b, upward
 module _ (hs : List Term) (b : Branch) where
   -- rule 19: each entry is in A
-  abbrev pub listing : SetVar → List Term → List (Term × Move)
-  listing A es = map (λ (e : Term). (root b e, propagation 19 [] (In e A))) es
+  abbrev pub entering : SetVar → List Term → List (Term × Move)
+  entering A es = map (λ (e : Term). (root b e, propagation 19 [] (In e A))) es
 
   -- rule 20 at root h: in A, but no entry in its class: merged with each distinct class of entries, in entry order
   abbrev pub choose : SetVar → List Term → Term → Move
@@ -51,17 +51,17 @@ module _ (hs : List Term) (b : Branch) where
   propagations (nonmember t A) = (root b t, propagation 2 [] (Out t A)) ∷ []
   propagations (same t u) = (root b t, propagation 3 [] (Same t u)) ∷ []
   propagations (different t u) = (root b t, record { rule = 4; premises = Same t u ∷ []; blockers = []; alternatives = [] }) ∷ []
-  propagations (relation k A B C) = over hs (operandOf A B C) (propagationRows k)
+  propagations (relation k A B C) = atRoots hs (operandOf A B C) (propagationRows k)
   propagations (negation k A B C w) = []
-  propagations (exactly A es) = listing A es
-  propagations (interval A i j es) = listing A es
+  propagations (exactly A es) = entering A es
+  propagations (interval A i j es) = entering A es
 
   abbrev pub splits : Constraint → List (Term × Move)
   splits (member t A) = []
   splits (nonmember t A) = []
   splits (same t u) = []
   splits (different t u) = []
-  splits (relation k A B C) = over hs (operandOf A B C) (splitRows k)
+  splits (relation k A B C) = atRoots hs (operandOf A B C) (splitRows k)
   splits (negation k A B C w) = (root b w, at w (operandOf A B C) (negationRow k)) ∷ []
   splits (exactly A es) = choosing A es
   splits (interval A i j es) = choosing A es

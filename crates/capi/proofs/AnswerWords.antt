@@ -5,7 +5,7 @@ use native.Mathlib.Omega.{arith}
 use borrow.Author.Tests.{eq-eqb, ne-eqb}
 use Rattle.calculus.specs.Run.{DONE, SPENT, NOROOM}
 use Rattle.calculus.specs.Calls.{refusal, ended, verdictOf, answerWord}
-use Rattle.output.specs.State.{endOf}
+use Rattle.records.specs.State.{endOf}
 
 pub refusal-word : (n : ℕ) → 256 * n ≡ answerWord (refusal n)
 unfolding answerWord

@@ -16,9 +16,9 @@ use Rattle.calculus.proofs.CallLaws.{asks, kept}
 use Rattle.problem.specs.declared.Table.{Table}
 use Rattle.problem.specs.Table.{problemTable, tableIs, tableOf, Opened}
 use Rattle.problem.proofs.Access.{opened}
-use Rattle.output.specs.declared.Counts.{Counts}
-use Rattle.output.specs.State.{State, state, stopNumber, endOf, left}
-use Rattle.solver.specs.Outcomes.{Runs}
+use Rattle.records.specs.declared.Counts.{Counts}
+use Rattle.records.specs.State.{State, state, stopNumber, endOf, stateLeft}
+use Rattle.solver.specs.ComesTo.{Runs}
 use Rattle.capi.specs.Contract.{RunContract, Determined}
 use Rattle.capi.proofs.Contracted.{contract}
 
@@ -79,12 +79,12 @@ module _ (bs : List ℕ) (budget : ℕ) (F T : List ℕ) where
       accepted : asked bs budget (length T) ≡ parsed prob
       accepted = asks bs budget (length T) .1 prob (opened bs tab o .reads) .2 few room
 
-      ran : state c G U ≡ left outcome F T
+      ran : state c G U ≡ stateLeft outcome F T
       ran = r prob (opened bs tab o .reads)
 
       called : call bs budget F T ≡ record { answer = ended (verdictOf (endOf (c .stop)) (c .forms)) (c .steps) (c .forms); forms = G; trace = U }
       unfolding call
-      called = let y : (c ≡ left outcome F T .counts) × (G ≡ left outcome F T .forms) × (U ≡ left outcome F T .trace) = (ap (λ (s : State). s .counts) ran, ap (λ (s : State). s .forms) ran, ap (λ (s : State). s .trace) ran) in
+      called = let y : (c ≡ stateLeft outcome F T .counts) × (G ≡ stateLeft outcome F T .forms) × (U ≡ stateLeft outcome F T .trace) = (ap (λ (s : State). s .counts) ran, ap (λ (s : State). s .forms) ran, ap (λ (s : State). s .trace) ran) in
           rw (accepted, y .0, y .1, y .2, end-number (outcome .end)) refl
 
       pub run-bounds : (c .steps ≤ mostSteps) × (c .forms ≤ 650001)

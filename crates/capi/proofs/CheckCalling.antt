@@ -12,13 +12,13 @@ use Rattle.calculus.specs.Problem.{Problem, setCount, values}
 use Rattle.calculus.specs.Reading.{Parsed, parsed, refused, read, _>>=_}
 use Rattle.calculus.specs.Encoding.{Bytes, Handed}
 use Rattle.calculus.specs.Check.{readAssignment, assignmentOf, lowest}
-use Rattle.calculus.specs.Calls.{refusal, Checked, declined, HOLDS, FAILS, found, check, answerWord, checkWord}
+use Rattle.calculus.specs.Calls.{refusal, Checked, declined, HOLDS, FAILS, checkedBy, check, answerWord, checkWord}
 use Rattle.calculus.proofs.Checking.{checks}
 use Rattle.problem.specs.declared.Table.{Table}
 use Rattle.problem.specs.Table.{problemTable, Opened, constraintsOf}
 use Rattle.problem.proofs.Access.{opened}
-use Rattle.handed.specs.declared.Layout.{Layout}
-use Rattle.handed.specs.Laid.{readHanded, Laid, Lays}
+use Rattle.assignment.specs.declared.Layout.{Layout}
+use Rattle.assignment.specs.Laid.{readHanded, Laid, Lays}
 use Rattle.checker.specs.Tested.{seen, Fitting, failing}
 use Rattle.checker.proofs.Agreeing.{lowest-seen}
 use Rattle.capi.specs.Contract.{CheckContract}
@@ -68,13 +68,13 @@ module _ (bs hs : List ℕ) (is : Bytes bs) (are : Bytes hs) where
       fitting = let l = lay .accepted q .2 in record { numbers-there = λ i h. l .numbers-are i h .0; members-there = λ A h. l .members-are A h .0 }
 
       module _ (r : ℕ) (e : lowest (seen bs tab hs at) 0 (constraintsOf (read bs)) ≡ failing (tab .constraints) r) where
-        tested : check bs hs ≡ found (parsed (failing (tab .constraints) r))
+        tested : check bs hs ≡ checkedBy (parsed (failing (tab .constraints) r))
         unfolding check _>>=_ constraintsOf
         tested =
             let a = lay .accepted q in
             let p = opened bs tab o .reads in
             let x = rw p at e in
-            rw (p, sym same-question ∙ a .1) (ap (λ (y : Option ℕ). found (parsed y)) (sym (lowest-seen bs tab o hs at prob p (a .0) (a .2)) ∙ x))
+            rw (p, sym same-question ∙ a .1) (ap (λ (y : Option ℕ). checkedBy (parsed y)) (sym (lowest-seen bs tab o hs at prob p (a .0) (a .2)) ∙ x))
 
         pub check-fails : r < tab .constraints → (w : ℕ) → w ≡ 6 + 256 * r → Ensures w
         check-fails l w u = contract-of (FAILS r) (tested ∙ rw (lt-ltb r (tab .constraints) l) refl) w (u ∙ fails-word r)

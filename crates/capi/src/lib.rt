@@ -1,8 +1,8 @@
 // The calls that the tablet's program makes. Each answers in one word; docs/ANSWER.md has its layout.
+use assignment::lay_out;
 use checker::lowest;
-use handed::lay_out;
-use output::Counts;
 use problem::read;
+use records::Counts;
 use solver::solve;
 use terms::MOST_STEPS;
 ghost use mathlib.Core.Path.{_≡_};
@@ -10,7 +10,7 @@ ghost use Prim.Native.Nat.{_≤_};
 ghost use Rattle.calculus.specs.Limits.{mostSteps};
 ghost use Rattle.calculus.specs.Calls.{refusal, ended, verdictOf, answerWord, check, checkWord};
 ghost use Rattle.capi.specs.Contract.{RunContract, Determined, CheckContract};
-ghost use Rattle.output.specs.State.{endOf};
+ghost use Rattle.records.specs.State.{endOf};
 
 // The word of a refusal.
 fn declined(n: u8) -> u64

@@ -10,7 +10,7 @@ use Rattle.calculus.specs.Branch.{start, assert, rootAt, inside, outside, addIn
 use Rattle.calculus.specs.Forms.{recordLength, rootIn, insideIn}
 use Rattle.calculus.specs.Calls.{Answer, refusal, ended, FORMS, FALSE, SPENT, NOROOM, asked, call}
 use Rattle.text.specs.Text.{decimal}
-use Rattle.page.specs.Listing.{formLine, heading, listing, programCall}
+use Rattle.listing_lines.specs.Listing.{formLine, heading, listing, programCall}
 use Rattle.cases.proofs.Rows.{wordsFrom}
 
 -- a problem's bytes, and the lines of its listing

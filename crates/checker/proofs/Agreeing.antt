@@ -22,10 +22,10 @@ use Rattle.calculus.proofs.Sequences.{terms-each}
 use Rattle.problem.specs.declared.Table.{Table}
 use Rattle.problem.specs.Table.{problemTable, Opened, constantOf, valuesOf}
 use Rattle.problem.proofs.Access.{opened, constant-read}
-use Rattle.handed.specs.declared.Layout.{Layout}
+use Rattle.assignment.specs.declared.Layout.{Layout}
 use Rattle.slices.specs.Bytes.{wordAt}
-use Rattle.handed.specs.Laid.{Laid}
-use Rattle.checker.specs.Tested.{numberOf, seen}
+use Rattle.assignment.specs.Laid.{Laid}
+use Rattle.checker.specs.Tested.{valueAt, seen}
 
 -- two valuations that agree on the first n terms and s sets
 pub record Agree (n s : ℕ) (v w : Valuation) : Type 0 where
@@ -88,10 +88,10 @@ module _ (bs : List ℕ) (tab : Table) (o : Opened bs tab) (hs : List ℕ) (at :
       let q = constant-read bs tab t o l .1 in
       rw p at q
 
-  seen-numbers : (t : Term) → t .index < nameable prob → numberOf bs tab hs (t .index) ≡ valueOf prob (assignmentOf g .number) (λ _. pos 0) t
+  seen-numbers : (t : Term) → t .index < nameable prob → valueAt bs tab hs (t .index) ≡ valueOf prob (assignmentOf g .number) (λ _. pos 0) t
   seen-numbers t l = go (decLt (t .index) (tab .constants))
     where
-      go : Dec (t .index < tab .constants) → numberOf bs tab hs (t .index) ≡ valueOf prob (assignmentOf g .number) (λ _. pos 0) t
+      go : Dec (t .index < tab .constants) → valueAt bs tab hs (t .index) ≡ valueOf prob (assignmentOf g .number) (λ _. pos 0) t
       go (yes h) = rw (lt-ltb (t .index) (tab .constants) h, lt-ltb (t .index) (constantCount prob) (omega (arith, constants-are))) (a-constant (t .index) h)
       go (no h) =
           rw (le-ltb (t .index) (tab .constants) (omega arith), le-ltb (t .index) (constantCount prob) (omega (arith, constants-are)), lt-ltb (t .index) (nameable prob) l)

@@ -31,9 +31,9 @@ use Rattle.constraints.specs.declared.Constraint.the-variants.{Interval}
 use Rattle.constraints.specs.declared.Negation as codeNegation
 use Rattle.constraints.specs.declared.Negation.the-variants.{Unequal}
 use Rattle.constraints.specs.Decoded.{decoded, negationOf, Unpacked}
-use Rattle.handed.specs.declared.Layout.{Layout}
-use Rattle.handed.specs.Laid.{membersAt}
-use Rattle.checker.specs.Tested.{numberOf, seen, Readable, entriesIn, Fitting, failing}
+use Rattle.assignment.specs.declared.Layout.{Layout}
+use Rattle.assignment.specs.Laid.{membersAt}
+use Rattle.checker.specs.Tested.{valueAt, seen, Readable, entriesIn, Fitting, failing}
 use Rattle.slices.proofs.TwoBytes.{same-number}
 
 -- ---- the operands of a constraint are there
@@ -92,10 +92,10 @@ module _ (bs : List ℕ) (tab : Table) (hs : List ℕ) (at : Layout) where
   abbrev here : Valuation
   here = seen bs tab hs at
 
-  pub member-test : (b : Bool) (m : List ℕ) (x t A : ℕ) → m ≡ membersAt hs at A → signed x ≡ numberOf bs tab hs t → b ≡ has (words m) (signed x) → b ≡ has (here .members (setVar A)) (here .num (term t))
+  pub member-test : (b : Bool) (m : List ℕ) (x t A : ℕ) → m ≡ membersAt hs at A → signed x ≡ valueAt bs tab hs t → b ≡ has (words m) (signed x) → b ≡ has (here .members (setVar A)) (here .num (term t))
   member-test b m x t A em ex e = e ∙ ap₂ (λ (l : List ℕ) (y : ℤ). has (words l) y) em ex
 
-  pub same-test : (x y t u : ℕ) → (signed x ≡ numberOf bs tab hs t) × (x < 65536) → (signed y ≡ numberOf bs tab hs u) × (y < 65536) → eqb x y ≡ eqZ (here .num (term t)) (here .num (term u))
+  pub same-test : (x y t u : ℕ) → (signed x ≡ valueAt bs tab hs t) × (x < 65536) → (signed y ≡ valueAt bs tab hs u) × (y < 65536) → eqb x y ≡ eqZ (here .num (term t)) (here .num (term u))
   same-test x y t u ex ey = sym (same-number x y (ex .1) (ey .1)) ∙ ap₂ eqZ (ex .0) (ey .0)
 
   pub relates-test : (b : Bool) (k : Relation) (l m r : List ℕ) (A B C : ℕ) → l ≡ membersAt hs at A → m ≡ membersAt hs at B → r ≡ membersAt hs at C → b ≡ relates? k (words l) (words m) (words r)
@@ -105,8 +105,8 @@ module _ (bs : List ℕ) (tab : Table) (hs : List ℕ) (at : Layout) where
   pub exactly-test : (b : Bool) (m es : List ℕ) (A : ℕ) → m ≡ membersAt hs at A → b ≡ entriesIn bs tab hs es (words m) → b ≡ exactly? here (setVar A) (map term es)
   exactly-test b m es A em e = e ∙ ap (λ (l : List ℕ). entriesIn bs tab hs es (words l)) em
       ∙ ap₂ (λ (x y : Bool). x && y)
-      (ap (λ (ys : List ℤ). all (has ys) (words (membersAt hs at A))) (sym (map-map (λ (t : Term). numberOf bs tab hs (t .index)) term es)))
-      (sym (all-map (λ (t : Term). has (words (membersAt hs at A)) (numberOf bs tab hs (t .index))) term es))
+      (ap (λ (ys : List ℤ). all (has ys) (words (membersAt hs at A))) (sym (map-map (λ (t : Term). valueAt bs tab hs (t .index)) term es)))
+      (sym (all-map (λ (t : Term). has (words (membersAt hs at A)) (valueAt bs tab hs (t .index))) term es))
 
 -- what a negation denies is equality
 pub negated-relates : (n : codeNegation.Negation) (b : Bool) (l m r : List ℤ) → b ≡ relates? equal l m r → b ≡ relates? (denies (negationOf n)) l m r

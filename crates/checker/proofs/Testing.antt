@@ -12,7 +12,7 @@ use Rattle.problem.specs.declared.Table.{Table}
 use Rattle.constraints.specs.declared.Relation.{Relation}
 use Rattle.constraints.specs.Decoded.{relationOf}
 use Rattle.slices.specs.Bytes.{bytesAt}
-use Rattle.checker.specs.Tested.{relatedAt, numberOf}
+use Rattle.checker.specs.Tested.{relatedAt, valueAt}
 
 -- ---- a relation
 
@@ -58,8 +58,8 @@ goes-on a b v e q = rw (← e) q
 
 -- of term number t, which is word w of the problem or of the assignment
 module _ (bs : List ℕ) (tab : Table) (hs : List ℕ) (t w : ℕ) where
-  pub constant-value : t < tab .constants → w ≡ bytesAt bs (1 + 2 * t) → signed w ≡ numberOf bs tab hs t
+  pub constant-value : t < tab .constants → w ≡ bytesAt bs (1 + 2 * t) → signed w ≡ valueAt bs tab hs t
   constant-value l e = rw (lt-ltb t (tab .constants) l, e) refl
 
-  pub variable-value : tab .constants ≤ t → w ≡ bytesAt hs (1 + 2 * (t - tab .constants)) → signed w ≡ numberOf bs tab hs t
+  pub variable-value : tab .constants ≤ t → w ≡ bytesAt hs (1 + 2 * (t - tab .constants)) → signed w ≡ valueAt bs tab hs t
   variable-value l e = rw (le-ltb t (tab .constants) l, e) refl

@@ -16,19 +16,19 @@ use Rattle.slices.specs.Bytes.{wordAt}
 use Rattle.problem.specs.declared.Table.{Table}
 use Rattle.constraints.specs.declared.Relation.{Relation}
 use Rattle.constraints.specs.Decoded.{relationOf}
-use Rattle.handed.specs.declared.Layout.{Layout}
-use Rattle.handed.specs.Laid.{membersAt}
+use Rattle.assignment.specs.declared.Layout.{Layout}
+use Rattle.assignment.specs.Laid.{membersAt}
 
 -- a relation of three sets, at one whole number
 abbrev pub relatedAt : Relation → List ℕ → List ℕ → List ℕ → ℤ → Bool
 relatedAt k l m r x = holdsAt (relationOf k) (has (words l) x) (has (words m) x) (has (words r) x)
 
 -- the number at a term's two bytes
-abbrev pub numberOf : List ℕ → Table → List ℕ → ℕ → ℤ
-numberOf bs tab hs t = cond (ltb t (tab .constants)) (wordAt bs (1 + 2 * t)) (wordAt hs (1 + 2 * (t - tab .constants)))
+abbrev pub valueAt : List ℕ → Table → List ℕ → ℕ → ℤ
+valueAt bs tab hs t = cond (ltb t (tab .constants)) (wordAt bs (1 + 2 * t)) (wordAt hs (1 + 2 * (t - tab .constants)))
 
 abbrev pub seen : List ℕ → Table → List ℕ → Layout → Valuation
-seen bs tab hs at = record { num = λ t. numberOf bs tab hs (t .index); members = λ A. words (membersAt hs at (A .index)) }
+seen bs tab hs at = record { num = λ t. valueAt bs tab hs (t .index); members = λ A. words (membersAt hs at (A .index)) }
 
 -- both bytes of term number t are there
 abbrev pub Readable : List ℕ → Table → List ℕ → ℕ → Type 0
@@ -36,7 +36,7 @@ Readable bs tab hs t = (t < tab .constants → 2 + 2 * t < length bs) × (tab .c
 
 -- every member is the value of some entry, and every entry's value is a member
 abbrev pub entriesIn : List ℕ → Table → List ℕ → List ℕ → List ℤ → Bool
-entriesIn bs tab hs es xs = all (has (map (numberOf bs tab hs) es)) xs && all (λ e. has xs (numberOf bs tab hs e)) es
+entriesIn bs tab hs es xs = all (has (map (valueAt bs tab hs) es)) xs && all (λ e. has xs (valueAt bs tab hs e)) es
 
 -- the variables' values and the sets' members are there
 pub record Fitting (tab : Table) (hs : List ℕ) (at : Layout) : Type 0 where

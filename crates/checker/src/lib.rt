@@ -1,10 +1,10 @@
 // The assignment check: a test of each constraint, and the lowest that fails.
+use assignment::Layout;
+use assignment::members;
 use constraints::Constraint;
 use constraints::Relation;
 use constraints::decode;
-use constraints::list;
-use handed::Layout;
-use handed::members;
+use constraints::entries_of;
 use problem::Table;
 use slices::numbers;
 use slices::word;
@@ -19,7 +19,7 @@ ghost use Rattle.calculus.specs.Reading.{read, signed, words};
 ghost use Rattle.calculus.specs.Check.{has, relates?, holds?, lowest};
 ghost use Rattle.problem.specs.Table.{Opened, constraintsOf, constraintOf};
 ghost use Rattle.constraints.specs.Decoded.{relationOf};
-ghost use Rattle.checker.specs.Tested.{relatedAt, numberOf, seen, Readable, entriesIn, Fitting, failing};
+ghost use Rattle.checker.specs.Tested.{relatedAt, valueAt, seen, Readable, entriesIn, Fitting, failing};
 
 // Whether a value is among the members.
 fn has(members: &[u8], x: u16) -> bool
@@ -80,7 +80,7 @@ fn relates(k: Relation, l: &[u8], m: &[u8], r: &[u8]) -> bool
 // The value of a term that a constraint can name: its two bytes in the problem or in the assignment.
 fn value(problem: &[u8], tab: Table, assignment: &[u8], t: Term) -> u16
     requires { ⌜ Readable (now problem) tab (now assignment) (t .0) ⌝ }
-    ensures { λ r. ⌜ (signed r ≡ numberOf (now (problem .entry)) tab (now (assignment .entry)) (t .0)) × (r < 65536) ⌝ }
+    ensures { λ r. ⌜ (signed r ≡ valueAt (now (problem .entry)) tab (now (assignment .entry)) (t .0)) × (r < 65536) ⌝ }
 {
     if t.0 < tab.constants {
         return word(problem, 1 + 2 * (t.0 as usize));
@@ -89,9 +89,9 @@ fn value(problem: &[u8], tab: Table, assignment: &[u8], t: Term) -> u16
 }
 
 // Whether some entry has a value.
-fn listed(problem: &[u8], tab: Table, assignment: &[u8], list: &[u8], x: u16) -> bool
+fn is_entry(problem: &[u8], tab: Table, assignment: &[u8], list: &[u8], x: u16) -> bool
     requires { ⌜ Each (Readable (now problem) tab (now assignment)) (now list) ⌝ }
-    ensures { λ r. ⌜ r ≡ has (map (numberOf (now (problem .entry)) tab (now (assignment .entry))) (now (list .entry))) (signed x) ⌝ }
+    ensures { λ r. ⌜ r ≡ has (map (valueAt (now (problem .entry)) tab (now (assignment .entry))) (now (list .entry))) (signed x) ⌝ }
 {
     for i in 0..list.len() {
         if value(problem, tab, assignment, Term(list[i])) == x {
@@ -108,7 +108,7 @@ fn exactly(problem: &[u8], tab: Table, assignment: &[u8], list: &[u8], members: 
 {
     let n = members.len() / 2;
     for i in 0..n {
-        if !listed(problem, tab, assignment, list, word(members, 2 * i)) {
+        if !is_entry(problem, tab, assignment, list, word(members, 2 * i)) {
             return false;
         }
     }
@@ -133,7 +133,7 @@ fn holds<'a>(
     ensures { λ r. ⌜ r ≡ holds? (seen (now (problem .entry)) tab (now (assignment .entry)) at) (constraintOf (now (problem .entry)) i) ⌝ }
 {
     let l = decode(problem, tab, i);
-    let entries = list(problem, numbers, tab, i, l);
+    let entries = entries_of(problem, numbers, tab, i, l);
     match l {
         Constraint::Member(t, a) => {
             let x = value(problem, tab, assignment, t);

@@ -83,7 +83,7 @@ pub fn decode(problem: &[u8], tab: Table, i: usize) -> Constraint
 }
 
 // The entries of constraint i, which stands at an offset: the part of the problem that has a list's, the part of the numbers that has an interval's, and none of any other.
-pub fn list_at<'a>(
+pub fn entries_at<'a>(
     problem: &'a [u8],
     numbers: &'a [u8],
     i: usize,
@@ -109,7 +109,7 @@ pub fn list_at<'a>(
 }
 
 // The entries of constraint i.
-pub fn list<'a>(
+pub fn entries_of<'a>(
     problem: &'a [u8],
     numbers: &'a [u8],
     tab: Table,
@@ -120,5 +120,5 @@ pub fn list<'a>(
     ensures { λ r. ⌜ Unpacked (now (problem .entry)) i (now r) l ⌝ }
 {
     let offsets = tab.offsets;
-    list_at(problem, numbers, i, offsets[i] as usize, l)
+    entries_at(problem, numbers, i, offsets[i] as usize, l)
 }

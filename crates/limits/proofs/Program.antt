@@ -7,7 +7,7 @@ use Rattle.calculus.specs.Search.{next}
 use Rattle.calculus.specs.Run.{run}
 use Rattle.calculus.specs.Branch.{start, assert, rootAt, inside, outside, addInside, addOutside, merge, torn}
 use Rattle.calculus.specs.Calls.{asked, call, ended, FALSE, SPENT, NOROOM}
-use Rattle.page.specs.Listing.{programCall}
+use Rattle.listing_lines.specs.Listing.{programCall}
 
 -- ---- the budget
 

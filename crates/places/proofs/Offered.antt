@@ -16,7 +16,7 @@ use Rattle.calculus.specs.Relations.{Rule, Literal, Relation, equal, union, dis
 use Rattle.calculus.specs.Meaning.{Constraint, member, nonmember, same, different, relation, negation, exactly, interval}
 use Rattle.calculus.specs.Branch.{Branch, walk, rootAt, root, In, Out, Same, known}
 use Rattle.calculus.specs.Invariants.{Falls, ConstraintIn}
-use Rattle.calculus.specs.Search.{Move, at, over, choose, rootsOf}
+use Rattle.calculus.specs.Search.{Move, at, atRoots, choose, rootsOf}
 use Rattle.calculus.proofs.Bools.{Each-imp, first-some}
 use Rattle.calculus.proofs.Walk.{walk-le, walk-root, root-walk}
 use Rattle.calculus.proofs.Sequences.{up-each, keep-each}
@@ -53,7 +53,7 @@ module _ (n : ℕ) (b : Branch) where
   at-roots : (f : Term → Term × Move) → map f (rootsOf n b) ≡ map (λ (p : ℕ). f (term p)) (roots n b)
   at-roots f = ap (map f) (kept (upFrom 0 n)) ∙ map-map f term (roots n b)
 
-  rows-offered : (s : Operand → SetVar) (rs : List (Rule Literal)) → over (rootsOf n b) s rs ≡ gather (λ (r : Rule Literal). map (λ (p : ℕ). (term p, at (term p) s r)) (roots n b)) rs
+  rows-offered : (s : Operand → SetVar) (rs : List (Rule Literal)) → atRoots (rootsOf n b) s rs ≡ gather (λ (r : Rule Literal). map (λ (p : ℕ). (term p, at (term p) s r)) (roots n b)) rs
   rows-offered s rs = ap (λ (g : Rule Literal → List (Term × Move)). gather g rs) (fun-ext (λ r. at-roots (λ h. (h, at h s r))))
 
   listing-offered : (A : SetVar) (es : List Term) → map (λ (e : Term). (root b e, propagation 19 [] (In e A))) es ≡ map (listMove b A es 19) (upFrom 0 (length es)) ++ []

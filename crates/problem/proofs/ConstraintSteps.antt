@@ -19,9 +19,9 @@ use Rattle.calculus.specs.Encoding.{encodeConstraint}
 use Rattle.calculus.specs.Reading.{Parsed, parsed, refused, _>>=_, ask, byte, bytes, gapless, Parser, refuse, two, three, ofList, ofInterval, kinds, constraint, constraints}
 use Rattle.calculus.proofs.Words.{words-length}
 use Rattle.calculus.proofs.ConstraintParsers.{constraint-reads, constraints-read}
-use Rattle.questions.specs.declared.Parsed.{Parsed as Step}
+use Rattle.questions.specs.declared.Scanned.{Scanned}
 use Rattle.problem.specs.declared.sections.Tables.{Tables}
-use Rattle.questions.specs.Questions.{constantsOf, parsedOf}
+use Rattle.questions.specs.Questions.{constantsOf, scannedOf}
 use Rattle.slices.specs.Bytes.{placesFrom, filled}
 use Rattle.slices.proofs.Parts.{places-length}
 use Rattle.problem.specs.Sections.{startsFrom, witnessesFrom, refusedTables, tablesOf}
@@ -162,27 +162,27 @@ module _ (cs : List ℤ) (N S w : ℕ) where
 -- ---- one constraint of the problem
 
 -- what the answer of `constraint_at` tells, w being the next witness
-pub record One (cs : List ℤ) (N S : ℕ) (bs : List ℕ) (at w : ℕ) (one : Step) : Type 0 where
+pub record One (cs : List ℤ) (N S : ℕ) (bs : List ℕ) (at w : ℕ) (one : Scanned) : Type 0 where
   pub this : Constraint
   pub reads : constraint cs N S w (drop at bs) ≡ parsed (this, drop (one .next) bs)
   pub next : one .next ≡ at + length (encodeConstraint this)
   pub fits : one .next ≤ length bs
   pub witness : one .witnesses ≡ uses this
 
-module _ (cs : List ℤ) (N S : ℕ) (bs : List ℕ) (at w : ℕ) (one : Step) (e : one ≡ parsedOf (length bs) (constraint cs N S 0 (drop at bs))) where
+module _ (cs : List ℤ) (N S : ℕ) (bs : List ℕ) (at w : ℕ) (one : Scanned) (e : one ≡ scannedOf (length bs) (constraint cs N S 0 (drop at bs))) where
   pub one-stops : (one .refusal ≡ 0 → ⊥) → (n : ℕ) → constraints cs N S w (suc n) (drop at bs) ≡ refused (one .refusal)
-  unfolding parsedOf _>>=_
+  unfolding scannedOf _>>=_
   one-stops z n = go (constraint cs N S 0 (drop at bs)) refl
     where
       go : (m : Parsed (Constraint × List ℕ)) → constraint cs N S 0 (drop at bs) ≡ m → constraints cs N S w (suc n) (drop at bs) ≡ refused (one .refusal)
-      go (parsed a) q = let r = rw q at e in absurd (z (ap (λ (x : Step). x .refusal) r))
+      go (parsed a) q = let r = rw q at e in absurd (z (ap (λ (x : Scanned). x .refusal) r))
       go (refused k) q =
           let r = rw q at e in
           let x : constraint cs N S w (drop at bs) ≡ refused k = rw q at (constraint-any cs N S w (drop at bs)) in
-          rw x (ap refused (sym (ap (λ (y : Step). y .refusal) r)))
+          rw x (ap refused (sym (ap (λ (y : Scanned). y .refusal) r)))
 
   pub one-goes : Rising cs → length cs ≤ N → at ≤ length bs → one .refusal ≡ 0 → One cs N S bs at w one
-  unfolding parsedOf _>>=_
+  unfolding scannedOf _>>=_
   one-goes up known l z = go (constraint cs N S 0 (drop at bs)) refl
     where
       go : (m : Parsed (Constraint × List ℕ)) → constraint cs N S 0 (drop at bs) ≡ m → One cs N S bs at w one
@@ -192,7 +192,7 @@ module _ (cs : List ℤ) (N S : ℕ) (bs : List ℕ) (at w : ℕ) (one : Step) (
           let x : (h .0, h .2) ≡ a = cc (h .4) in
           let u : List ℕ = encodeConstraint (a .0) in
           let d : drop at bs ≡ u ++ a .1 = h .3 ∙ ap (λ (y : List ℕ). y ++ h .2) (h .5 .0) ∙ ap (λ (b : Constraint × List ℕ). encodeConstraint (b .0) ++ b .1) x in
-          let n : one .next ≡ length bs - length (a .1) = ap (λ (b : Step). b .next) r in
+          let n : one .next ≡ length bs - length (a .1) = ap (λ (b : Scanned). b .next) r in
           let ld : length bs - at ≡ length u + length (a .1) = sym (length-drop at bs) ∙ ap length d ∙ length-append u (a .1) in
           let nx : one .next ≡ at + length u = omega arith in
           let rest : drop (one .next) bs ≡ a .1 = rw (nx, ← drop-drop (length u) at bs, d) (drop-append-seam u (a .1)) in
@@ -201,12 +201,12 @@ module _ (cs : List ℤ) (N S : ℕ) (bs : List ℕ) (at w : ℕ) (one : Step) (
             reads = rw (rest) (rw q at (constraint-any cs N S w (drop at bs)));
             next = rw (retie-bytes w (a .0)) nx;
             fits = omega arith;
-            witness = ap (λ (b : Step). b .witnesses) r ∙ sym (retie-uses w (a .0));
+            witness = ap (λ (b : Scanned). b .witnesses) r ∙ sym (retie-uses w (a .0));
           }
       go (refused k) q =
           let r = rw q at e in
           let f = constraint-reads cs N S up known 0 .numbers (drop at bs) k q in
-          let g : one .refusal ≡ k = ap (λ (b : Step). b .refusal) r in
+          let g : one .refusal ≡ k = ap (λ (b : Scanned). b .refusal) r in
           absurd (omega (arith, f .0))
 
 -- ---- all of them
@@ -246,7 +246,7 @@ module _ (cs : List ℤ) (N S : ℕ) (bs : List ℕ) where
           (stored (map (λ x. x % 256) (witnessesFrom w (a .0))) (omega (arith, places-length uses w (a .0), length-map (witnessesFrom w (a .0)) (λ x. x % 256))))
       go (refused n) q = refl
 
-  fill-step : (at w i n : ℕ) (offs wits : List ℕ) (one : Step) (h : One cs N S bs at w one)
+  fill-step : (at w i n : ℕ) (offs wits : List ℕ) (one : Scanned) (h : One cs N S bs at w one)
       → fillFrom (length bs) at w i offs wits (rest at w (suc n))
       ≡ fillFrom (length bs) (one .next) (w + one .witnesses) (suc i) (set offs i at) (set wits i (w % 256)) (rest (one .next) (w + one .witnesses) n)
   unfolding fillFrom placesFrom _>>=_
@@ -258,14 +258,14 @@ module _ (cs : List ℤ) (N S : ℕ) (bs : List ℕ) where
       go (refused k) = refl
 
   -- one turn of the loop
-  pub fill-again : (at w i m : ℕ) (offs wits : List ℕ) (one : Step) → i < m → One cs N S bs at w one
+  pub fill-again : (at w i m : ℕ) (offs wits : List ℕ) (one : Scanned) → i < m → One cs N S bs at w one
       → fillFrom (length bs) at w i offs wits (rest at w (m - i))
       ≡ fillFrom (length bs) (one .next) (w + one .witnesses) (i + 1) (set offs i at) (set wits i (w % 256)) (rest (one .next) (w + one .witnesses) (m - (i + 1)))
   fill-again at w i m offs wits one l h =
       let e : m - i ≡ suc (m - (i + 1)) = omega arith in
       rw (e, add-one i) (fill-step at w i (m - suc i) offs wits one h)
 
-  pub fill-stop : (at w i m : ℕ) (offs wits : List ℕ) (one : Step) → one ≡ parsedOf (length bs) (constraint cs N S 0 (drop at bs)) → (one .refusal ≡ 0 → ⊥) → i < m
+  pub fill-stop : (at w i m : ℕ) (offs wits : List ℕ) (one : Scanned) → one ≡ scannedOf (length bs) (constraint cs N S 0 (drop at bs)) → (one .refusal ≡ 0 → ⊥) → i < m
       → fillFrom (length bs) at w i offs wits (rest at w (m - i)) ≡ refusedTables (one .refusal)
   unfolding fillFrom
   fill-stop at w i m offs wits one e z l =

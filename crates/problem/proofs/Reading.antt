@@ -24,7 +24,7 @@ use Rattle.questions.specs.Questions.{ConstantsRise, constantsOf}
 use Rattle.slices.specs.Bytes.{placesFrom, filled}
 use Rattle.problem.specs.Sections.{counted, section, constantsTest, variablesTest, setsTest, constantsSection, variablesSection, setsSection, sectionOf, variablesOf, setsOf, startsFrom, witnessesFrom, tablesOf}
 use Rattle.problem.specs.Table.{refusedTable, problemTable, tableIs, tableOf}
-use Rattle.problem.proofs.SectionLaws.{Stands, byte-none, byte-at, section-stops, section-goes}
+use Rattle.problem.proofs.SectionLaws.{SectionStands, byte-none, byte-at, section-stops, section-goes}
 use Rattle.questions.proofs.Constants.{constants-length}
 
 -- ---- a section, and what is read after it
@@ -74,7 +74,7 @@ module _ (bs : List ℕ) (s : Section) where
     unfolding _>>=_
     constants-stop z = constants-stage bs ∙ rw (section-stops 2 3 constantsTest bs 0 s e z)
 
-    pub constants-stand : s .refusal ≡ 0 → Stands 2 bs 0 s × ConstantsRise bs (s .count)
+    pub constants-stand : s .refusal ≡ 0 → SectionStands 2 bs 0 s × ConstantsRise bs (s .count)
     unfolding constantsOf
     constants-stand z =
         let g = section-goes 2 3 constantsTest bs 0 s (omega arith) e z in
@@ -89,7 +89,7 @@ module _ (bs : List ℕ) (s : Section) where
     unfolding _>>=_
     variables-stop cs z = variables-stage cs (drop at bs) ∙ rw (section-stops 1 4 variablesTest bs at s e z)
 
-    pub variables-stand : s .refusal ≡ 0 → Stands 1 bs at s
+    pub variables-stand : s .refusal ≡ 0 → SectionStands 1 bs at s
     variables-stand z = section-goes 1 4 variablesTest bs at s (omega arith) e z .0
 
     pub variables-go : (cs : List ℤ) (k : ℕ) → at ≡ 1 + 2 * k → s .refusal ≡ 0 → readVariables cs (drop at bs) ≡ readSets cs (variablesOf bs k (s .count)) (drop (s .next) bs)
@@ -104,7 +104,7 @@ module _ (bs : List ℕ) (s : Section) where
     unfolding _>>=_
     sets-stop cs ns z = sets-stage cs ns (drop at bs) ∙ rw (section-stops 1 5 setsTest bs at s e z)
 
-    pub sets-stand : s .refusal ≡ 0 → Stands 1 bs at s × (s .count ≤ mostSets)
+    pub sets-stand : s .refusal ≡ 0 → SectionStands 1 bs at s × (s .count ≤ mostSets)
     sets-stand z = let g = section-goes 1 5 setsTest bs at s (omega arith) e z in (g .0, leb-true (s .count) mostSets (and-r (letters 65 90 (take (1 * s .count) (drop (at + 1) bs))) _ (g .1)))
 
     pub sets-go : (cs : List ℤ) (ns : List ℕ) (k n : ℕ) → at ≡ 2 + 2 * k + n → s .refusal ≡ 0 → readSets cs ns (drop at bs) ≡ readConstraints cs ns (setsOf bs k n (s .count)) (drop (s .next) bs)

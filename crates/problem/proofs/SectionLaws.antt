@@ -71,7 +71,7 @@ module _ (size : ℕ) (bs : List ℕ) (at : ℕ) where
       rw (counted-at l) (ap (λ (x : ℕ). record { refusal = 0; count = n; next = x }) e)
 
 -- where a section stands and ends
-pub record Stands (size : ℕ) (bs : List ℕ) (at : ℕ) (s : Section) : Type 0 where
+pub record SectionStands (size : ℕ) (bs : List ℕ) (at : ℕ) (s : Section) : Type 0 where
   pub count : s .count ≡ getD bs at 0
   pub next : s .next ≡ at + 1 + size * s .count
   pub fits : s .next ≤ length bs
@@ -82,14 +82,14 @@ module _ (size : ℕ) (bs : List ℕ) (at : ℕ) (s : Section) where
 
   -- what a section's count tells
   pub found : s ≡ sectionOf (length bs) (counted size (drop at bs)) → s .refusal ≡ 0
-      → Stands size bs at s × (counted size (drop at bs) ≡ parsed (s .count, body, drop (s .next) bs))
+      → SectionStands size bs at s × (counted size (drop at bs) ≡ parsed (s .count, body, drop (s .next) bs))
   unfolding sectionOf
   found e z = go (decLt at (length bs)) (decLe (end size bs at) (length bs))
     where
       Goal : Type 0
-      Goal = Stands size bs at s × (counted size (drop at bs) ≡ parsed (s .count, body, drop (s .next) bs))
+      Goal = SectionStands size bs at s × (counted size (drop at bs) ≡ parsed (s .count, body, drop (s .next) bs))
 
-      go : Dec (at < length bs) → Dec (end size bs at ≤ length bs) → Stands size bs at s × (counted size (drop at bs) ≡ parsed (s .count, body, drop (s .next) bs))
+      go : Dec (at < length bs) → Dec (end size bs at ≤ length bs) → SectionStands size bs at s × (counted size (drop at bs) ≡ parsed (s .count, body, drop (s .next) bs))
       go (yes l) (yes h) =
           let q = e ∙ sym (all-there size bs at h) in
           let a : s .count ≡ getD bs at 0 = ap (λ (x : Section). x .count) q in
@@ -131,12 +131,12 @@ module _ (size number : ℕ) (test : ℕ → List ℕ → Bool) (bs : List ℕ) 
       go (refused n) q = let r = rw q at e in q ∙ ap refused (sym (ap (λ (x : Section). x .refusal) r))
 
   pub section-goes : 0 < number → s ≡ sectionOf (length bs) this → s .refusal ≡ 0
-      → Stands size bs at s × (test (s .count) (body size bs at s) ≡ true) × (this ≡ parsed (s .count, body size bs at s, drop (s .next) bs))
+      → SectionStands size bs at s × (test (s .count) (body size bs at s) ≡ true) × (this ≡ parsed (s .count, body size bs at s, drop (s .next) bs))
   unfolding section sectionOf ask _>>=_
   section-goes p e z = go (counted size (drop at bs)) refl
     where
       ask-it : (a : ℕ × List ℕ × List ℕ) → counted size (drop at bs) ≡ parsed a → (t : Bool) → test (a .0) (a .1) ≡ t
-          → Stands size bs at s × (test (s .count) (body size bs at s) ≡ true) × (this ≡ parsed (s .count, body size bs at s, drop (s .next) bs))
+          → SectionStands size bs at s × (test (s .count) (body size bs at s) ≡ true) × (this ≡ parsed (s .count, body size bs at s, drop (s .next) bs))
       ask-it a q true t =
           let e′ : s ≡ sectionOf (length bs) (counted size (drop at bs)) = rw q (rw (q, t) at e) in
           let f = found size bs at s e′ z in
@@ -146,7 +146,7 @@ module _ (size number : ℕ) (test : ℕ → List ℕ → Bool) (bs : List ℕ) 
       ask-it a q false t = let r = rw (q, t) at e in let w : s .refusal ≡ number = ap (λ (x : Section). x .refusal) r in absurd (omega arith)
 
       go : (m : Parsed (ℕ × List ℕ × List ℕ)) → counted size (drop at bs) ≡ m
-          → Stands size bs at s × (test (s .count) (body size bs at s) ≡ true) × (this ≡ parsed (s .count, body size bs at s, drop (s .next) bs))
+          → SectionStands size bs at s × (test (s .count) (body size bs at s) ≡ true) × (this ≡ parsed (s .count, body size bs at s, drop (s .next) bs))
       go (parsed a) q = ask-it a q (test (a .0) (a .1)) refl
       go (refused n) q =
           let r = rw q at e in
@@ -163,7 +163,7 @@ few-bytes (suc (suc zero)) n l h = omega arith
 few-bytes (suc (suc (suc m))) n l h = absurd (omega arith)
 
 -- the part of the problem that has a section's names
-pub names-part : (bs : List ℕ) (at : ℕ) (s : Section) → Stands 1 bs at s → take (s .next - (at + 1)) (drop (at + 1) bs) ≡ body 1 bs at s
+pub names-part : (bs : List ℕ) (at : ℕ) (s : Section) → SectionStands 1 bs at s → take (s .next - (at + 1)) (drop (at + 1) bs) ≡ body 1 bs at s
 names-part bs at s h = let e : s .next - (at + 1) ≡ 1 * s .count = omega (arith, h .next) in ap (λ (x : ℕ). take x (drop (at + 1) bs)) e
 
 pub too-many : (b : Bool) (n : ℕ) → mostSets < n → (b && leb n mostSets) ≡ false

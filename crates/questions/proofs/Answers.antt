@@ -9,7 +9,7 @@ use lib.Dec.{leb, ltb}
 use borrow.Author.Tests.{lt-ltb, le-ltb, le-leb, lt-leb, leb-true, eq-eqb, ne-eqb}
 use Rattle.calculus.specs.Lists.{all}
 use Rattle.calculus.specs.Reading.{gapless}
-use Rattle.questions.specs.declared.Parsed.{Parsed}
+use Rattle.questions.specs.declared.Scanned.{Scanned}
 use Rattle.questions.specs.Questions.{constantsOf, refusedBy, acceptedTo, twoAt, threeAt, listAt, intervalAt}
 
 module _ (bs : List ℕ) (at : ℕ) where
@@ -60,13 +60,13 @@ module _ (bs : List ℕ) (at : ℕ) where
       three-good x y z = rw (room 3 h (omega arith), lt-ltb (getD bs at 0) p x, lt-ltb (getD bs (at + 1) 0) q y, lt-ltb (getD bs (at + 2) 0) s z) refl
 
     -- three operands that are accepted are there
-    pub three-there : (r : Parsed) → r ≡ threeAt p q s bs at → r .refusal ≡ 0 → at + 3 ≤ length bs
+    pub three-there : (r : Scanned) → r ≡ threeAt p q s bs at → r .refusal ≡ 0 → at + 3 ≤ length bs
     unfolding threeAt
     three-there r e z = go (leb (at + 3) (length bs)) refl
       where
         go : (t : Bool) → leb (at + 3) (length bs) ≡ t → at + 3 ≤ length bs
         go true g = leb-true (at + 3) (length bs) g
-        go false g = let f : threeAt p q s bs at ≡ refusedBy 2 = rw g refl in let two : _≡_ {A = ℕ} 2 0 = sym (ap (λ (x : Parsed). x .refusal) (e ∙ f)) ∙ z in absurd (omega arith)
+        go false g = let f : threeAt p q s bs at ≡ refusedBy 2 = rw g refl in let two : _≡_ {A = ℕ} 2 0 = sym (ap (λ (x : Scanned). x .refusal) (e ∙ f)) ∙ z in absurd (omega arith)
 
   module _ (N S : ℕ) where
     pub list-short : at ≤ length bs → length bs - at < 2 → refusedBy 2 ≡ listAt N S bs at
@@ -98,7 +98,7 @@ module _ (bs : List ℕ) (at : ℕ) where
           pub list-terms : t ≡ false → refusedBy 8 ≡ listAt N S bs at
           list-terms g = sym (ap (λ (b : Bool). cond b (acceptedTo e 0) (refusedBy 8)) g) ∙ list-is
 
-  module _ (k N S : ℕ) (r : Parsed) (three : r ≡ threeAt S N N bs at) where
+  module _ (k N S : ℕ) (r : Scanned) (three : r ≡ threeAt S N N bs at) where
     abbrev i : ℕ
     i = getD bs (at + 1) 0
 

@@ -17,8 +17,8 @@ use Rattle.calculus.specs.Relations.{union, intersection}
 use Rattle.calculus.specs.Meaning.{Constraint, relation, exactly, interval}
 use Rattle.calculus.specs.Problem.{entries, uses}
 use Rattle.calculus.specs.Reading.{parsed, _>>=_, ask, byte, bytes, gapless, Parser, refuse, two, three, ofList, ofInterval, kinds, constraint}
-use Rattle.questions.specs.declared.Parsed.{Parsed}
-use Rattle.questions.specs.Questions.{constantsOf, refusedBy, acceptedTo, parsedOf, twoAt, threeAt, listAt, intervalAt}
+use Rattle.questions.specs.declared.Scanned.{Scanned}
+use Rattle.questions.specs.Questions.{constantsOf, refusedBy, acceptedTo, scannedOf, twoAt, threeAt, listAt, intervalAt}
 use Rattle.questions.proofs.Constants.{constants-length}
 use Rattle.slices.proofs.Parts.{part-more}
 
@@ -40,13 +40,13 @@ module _ (bs : List ℕ) (at : ℕ) (u : List ℕ) (e : drop at bs ≡ u) where
 -- ---- the questions that come last
 
 module _ (len next w : ℕ) (l : Constraint) (u : List ℕ) (en : len - length u ≡ next) (ew : uses l ≡ w) where
-  asked : (n : ℕ) (t : Bool) → parsedOf len (ask n t >>= λ _. parsed (l, u)) ≡ cond t (acceptedTo next w) (refusedBy n)
-  unfolding parsedOf _>>=_ ask
+  asked : (n : ℕ) (t : Bool) → scannedOf len (ask n t >>= λ _. parsed (l, u)) ≡ cond t (acceptedTo next w) (refusedBy n)
+  unfolding scannedOf _>>=_ ask
   asked n true = ap₂ acceptedTo en ew
   asked n false = refl
 
-  asked-twice : (m n : ℕ) (t s : Bool) → parsedOf len (ask m t >>= λ _. ask n s >>= λ _. parsed (l, u)) ≡ cond t (cond s (acceptedTo next w) (refusedBy n)) (refusedBy m)
-  unfolding _>>=_ ask parsedOf
+  asked-twice : (m n : ℕ) (t s : Bool) → scannedOf len (ask m t >>= λ _. ask n s >>= λ _. parsed (l, u)) ≡ cond t (cond s (acceptedTo next w) (refusedBy n)) (refusedBy m)
+  unfolding _>>=_ ask scannedOf
   asked-twice m n true s = asked n s
   asked-twice m n false s = refl
 
@@ -54,14 +54,14 @@ module _ (len next w : ℕ) (l : Constraint) (u : List ℕ) (en : len - length u
 
 module _ (cs : List ℤ) (N S : ℕ) (bs : List ℕ) (at : ℕ) where
   module _ (p q w : ℕ) (make : ℕ → ℕ → Constraint) (same : (x y : ℕ) → uses (make x y) ≡ w) where
-    pub two-is : parsedOf (length bs) (two cs N S p q make (drop at bs)) ≡ twoAt p q w bs at
-    unfolding parsedOf twoAt _>>=_ byte
+    pub two-is : scannedOf (length bs) (two cs N S p q make (drop at bs)) ≡ twoAt p q w bs at
+    unfolding scannedOf twoAt _>>=_ byte
     two-is = go (drop at bs) refl
       where
         short : length bs < at + 2 → refusedBy 2 ≡ twoAt p q w bs at
         short l = rw (lt-leb (at + 2) (length bs) l) refl
 
-        go : (u : List ℕ) → drop at bs ≡ u → parsedOf (length bs) (two cs N S p q make u) ≡ twoAt p q w bs at
+        go : (u : List ℕ) → drop at bs ≡ u → scannedOf (length bs) (two cs N S p q make u) ≡ twoAt p q w bs at
         go [] e = short (omega (arith, left-length bs at [] e))
         go (x ∷ []) e = short (omega (arith, left-length bs at (x ∷ []) e))
         go (x ∷ y ∷ u) e =
@@ -71,14 +71,14 @@ module _ (cs : List ℤ) (N S : ℕ) (bs : List ℕ) (at : ℕ) where
             (asked (length bs) (at + 2) w (make x y) u (omega arith) (same x y) 8 (ltb x p && ltb y q))
 
   module _ (make : SetVar → SetVar → SetVar → Constraint) (same : (A B C : SetVar) → uses (make A B C) ≡ 0) where
-    pub three-is : parsedOf (length bs) (three cs N S make (drop at bs)) ≡ threeAt S S S bs at
-    unfolding parsedOf threeAt _>>=_ byte
+    pub three-is : scannedOf (length bs) (three cs N S make (drop at bs)) ≡ threeAt S S S bs at
+    unfolding scannedOf threeAt _>>=_ byte
     three-is = go (drop at bs) refl
       where
         short : length bs < at + 3 → refusedBy 2 ≡ threeAt S S S bs at
         short l = rw (lt-leb (at + 3) (length bs) l) refl
 
-        go : (u : List ℕ) → drop at bs ≡ u → parsedOf (length bs) (three cs N S make u) ≡ threeAt S S S bs at
+        go : (u : List ℕ) → drop at bs ≡ u → scannedOf (length bs) (three cs N S make u) ≡ threeAt S S S bs at
         go [] e = short (omega (arith, left-length bs at [] e))
         go (x ∷ []) e = short (omega (arith, left-length bs at (x ∷ []) e))
         go (x ∷ y ∷ []) e = short (omega (arith, left-length bs at (x ∷ y ∷ []) e))
@@ -88,19 +88,19 @@ module _ (cs : List ℤ) (N S : ℕ) (bs : List ℕ) (at : ℕ) where
             rw (le-leb (at + 3) (length bs) (omega arith), left-first bs at v e, left-at bs at v e 1, left-at bs at v e 2)
             (asked (length bs) (at + 3) 0 (make (setVar x) (setVar y) (setVar z)) u (omega arith) (same (setVar x) (setVar y) (setVar z)) 8 (ltb x S && ltb y S && ltb z S))
 
-  pub list-is : parsedOf (length bs) (ofList cs N S (drop at bs)) ≡ listAt N S bs at
-  unfolding parsedOf listAt _>>=_ byte bytes
+  pub list-is : scannedOf (length bs) (ofList cs N S (drop at bs)) ≡ listAt N S bs at
+  unfolding scannedOf listAt _>>=_ byte bytes
   list-is = go (drop at bs) refl
     where
       short : length bs < at + 2 → refusedBy 2 ≡ listAt N S bs at
       short l = rw (lt-leb (at + 2) (length bs) l) refl
 
-      go : (u : List ℕ) → drop at bs ≡ u → parsedOf (length bs) (ofList cs N S u) ≡ listAt N S bs at
+      go : (u : List ℕ) → drop at bs ≡ u → scannedOf (length bs) (ofList cs N S u) ≡ listAt N S bs at
       go [] e = short (omega (arith, left-length bs at [] e))
       go (x ∷ []) e = short (omega (arith, left-length bs at (x ∷ []) e))
       go (x ∷ n ∷ u) e = fits (leb n (length u)) refl
         where
-          fits : (t : Bool) → leb n (length u) ≡ t → parsedOf (length bs) (ofList cs N S (x ∷ n ∷ u)) ≡ listAt N S bs at
+          fits : (t : Bool) → leb n (length u) ≡ t → scannedOf (length bs) (ofList cs N S (x ∷ n ∷ u)) ≡ listAt N S bs at
           fits true g =
               let v : List ℕ = x ∷ n ∷ u in
               let h : length bs - at ≡ suc (suc (length u)) = left-length bs at v e in
@@ -114,8 +114,8 @@ module _ (cs : List ℤ) (N S : ℕ) (bs : List ℕ) (at : ℕ) where
               rw (le-leb (at + 2) (length bs) (omega arith), left-at bs at v e 1, lt-leb (at + 2 + n) (length bs) (omega arith), g) refl
 
 module _ (k N S : ℕ) (bs : List ℕ) (at : ℕ) (room : 1 + 2 * k ≤ length bs) where
-  pub interval-is : parsedOf (length bs) (ofInterval (constantsOf bs k) N S (drop at bs)) ≡ intervalAt k N S bs at
-  unfolding parsedOf intervalAt threeAt _>>=_ byte
+  pub interval-is : scannedOf (length bs) (ofInterval (constantsOf bs k) N S (drop at bs)) ≡ intervalAt k N S bs at
+  unfolding scannedOf intervalAt threeAt _>>=_ byte
   interval-is = go (drop at bs) refl
     where
       cs : List ℤ
@@ -130,7 +130,7 @@ module _ (k N S : ℕ) (bs : List ℕ) (at : ℕ) (room : 1 + 2 * k ≤ length b
       short : length bs < at + 3 → refusedBy 2 ≡ intervalAt k N S bs at
       short l = rw (lt-leb (at + 3) (length bs) l) refl
 
-      go : (u : List ℕ) → drop at bs ≡ u → parsedOf (length bs) (ofInterval cs N S u) ≡ intervalAt k N S bs at
+      go : (u : List ℕ) → drop at bs ≡ u → scannedOf (length bs) (ofInterval cs N S u) ≡ intervalAt k N S bs at
       go [] e = short (omega (arith, left-length bs at [] e))
       go (x ∷ []) e = short (omega (arith, left-length bs at (x ∷ []) e))
       go (x ∷ i ∷ []) e = short (omega (arith, left-length bs at (x ∷ i ∷ []) e))
@@ -151,25 +151,25 @@ either k n a b = go (ℕ-discrete k n)
     go (no e) = inr (omega arith)
 
 module _ (constants N S : ℕ) (bs : List ℕ) (at : ℕ) where
-  abbrev pub answer : Parsed
-  answer = parsedOf (length bs) (constraint (constantsOf bs constants) N S 0 (drop at bs))
+  abbrev pub answer : Scanned
+  answer = scannedOf (length bs) (constraint (constantsOf bs constants) N S 0 (drop at bs))
 
   pub no-kind : length bs ≤ at → refusedBy 2 ≡ answer
-  unfolding parsedOf _>>=_ byte
-  no-kind l = sym (ap (λ (u : List ℕ). parsedOf (length bs) (constraint (constantsOf bs constants) N S 0 u)) (drop-of-length-le bs l))
+  unfolding scannedOf _>>=_ byte
+  no-kind l = sym (ap (λ (u : List ℕ). scannedOf (length bs) (constraint (constantsOf bs constants) N S 0 u)) (drop-of-length-le bs l))
 
   module _ (l : at < length bs) where
     abbrev k : ℕ
     k = getD bs at 0
 
-    kind-is : (n : ℕ) → k ≡ n → parsedOf (length bs) (getD (kinds (constantsOf bs constants) N S 0) n (refuse 7) (drop (at + 1) bs)) ≡ answer
-    unfolding parsedOf _>>=_ byte
+    kind-is : (n : ℕ) → k ≡ n → scannedOf (length bs) (getD (kinds (constantsOf bs constants) N S 0) n (refuse 7) (drop (at + 1) bs)) ≡ answer
+    unfolding scannedOf _>>=_ byte
     kind-is n e =
-        sym (ap (λ (u : List ℕ). parsedOf (length bs) (constraint (constantsOf bs constants) N S 0 u)) (part-more bs at l)
-        ∙ ap (λ (i : ℕ). parsedOf (length bs) (getD (kinds (constantsOf bs constants) N S 0) i (refuse 7) (drop (at + 1) bs))) e)
+        sym (ap (λ (u : List ℕ). scannedOf (length bs) (constraint (constantsOf bs constants) N S 0 u)) (part-more bs at l)
+        ∙ ap (λ (i : ℕ). scannedOf (length bs) (getD (kinds (constantsOf bs constants) N S 0) i (refuse 7) (drop (at + 1) bs))) e)
 
     two-kind : (n p q w : ℕ) (make : ℕ → ℕ → Constraint) → ((x y : ℕ) → uses (make x y) ≡ w)
-        → parsedOf (length bs) (two (constantsOf bs constants) N S p q make (drop (at + 1) bs)) ≡ parsedOf (length bs) (getD (kinds (constantsOf bs constants) N S 0) n (refuse 7) (drop (at + 1) bs))
+        → scannedOf (length bs) (two (constantsOf bs constants) N S p q make (drop (at + 1) bs)) ≡ scannedOf (length bs) (getD (kinds (constantsOf bs constants) N S 0) n (refuse 7) (drop (at + 1) bs))
         → k ≡ n → twoAt p q w bs (at + 1) ≡ answer
     two-kind n p q w make same here e = sym (two-is (constantsOf bs constants) N S bs (at + 1) p q w make same) ∙ (here ∙ kind-is n e)
 
@@ -198,6 +198,6 @@ module _ (constants N S : ℕ) (bs : List ℕ) (at : ℕ) where
 
     -- 0, or above 12
     pub unknown-kind : (k < 1) ⊎ (12 < k) → refusedBy 7 ≡ answer
-    unfolding parsedOf
+    unfolding scannedOf
     unknown-kind (inl h) = kind-is 0 (omega arith)
-    unknown-kind (inr h) = sym (ap (λ (p : Parser). parsedOf (length bs) (p (drop (at + 1) bs))) (List·getD-eq-default (kinds (constantsOf bs constants) N S 0) (refuse 7) h)) ∙ kind-is k refl
+    unknown-kind (inr h) = sym (ap (λ (p : Parser). scannedOf (length bs) (p (drop (at + 1) bs))) (List·getD-eq-default (kinds (constantsOf bs constants) N S 0) (refuse 7) h)) ∙ kind-is k refl

@@ -9,7 +9,7 @@ ghost use lib.Dec.{ltb};
 ghost use Rattle.calculus.specs.Limits.{mostBytes, mostSets};
 ghost use Rattle.calculus.specs.Lists.{all};
 ghost use Rattle.calculus.specs.Reading.{ascending, inRange, letters, gapless, constraint};
-ghost use Rattle.questions.specs.Questions.{constantsOf, parsedOf, ConstantsRise, refusedBy, acceptedTo, twoAt, threeAt, listAt, intervalAt};
+ghost use Rattle.questions.specs.Questions.{constantsOf, scannedOf, ConstantsRise, refusedBy, acceptedTo, twoAt, threeAt, listAt, intervalAt};
 
 // How many constants and set variables there are, and how many terms a constraint can name.
 pub struct Sizes {
@@ -19,7 +19,7 @@ pub struct Sizes {
 }
 
 // The number of the question that refuses a constraint; or 0, where the next one begins, and how many witnesses this one has.
-pub struct Parsed {
+pub struct Scanned {
     pub refusal: u8,
     pub next: usize,
     pub witnesses: u8,
@@ -78,10 +78,10 @@ fn gapless_ok(problem: &[u8], k: usize, i: usize, j: usize) -> bool
 }
 
 // Refused by question n.
-fn refused(n: u8) -> Parsed
+fn refused(n: u8) -> Scanned
     ensures { λ r. ⌜ r ≡ refusedBy n ⌝ }
 {
-    Parsed {
+    Scanned {
         refusal: n,
         next: 0,
         witnesses: 0,
@@ -89,10 +89,10 @@ fn refused(n: u8) -> Parsed
 }
 
 // Read: the next constraint begins at next.
-fn accepted(next: usize, witnesses: u8) -> Parsed
+fn accepted(next: usize, witnesses: u8) -> Scanned
     ensures { λ r. ⌜ r ≡ acceptedTo next witnesses ⌝ }
 {
-    Parsed {
+    Scanned {
         refusal: 0,
         next: next,
         witnesses: witnesses,
@@ -100,7 +100,7 @@ fn accepted(next: usize, witnesses: u8) -> Parsed
 }
 
 // Two operands, each below its bound.
-fn two_at(problem: &[u8], at: usize, first: usize, second: usize, witnesses: u8) -> Parsed
+fn two_at(problem: &[u8], at: usize, first: usize, second: usize, witnesses: u8) -> Scanned
     requires { ⌜ at ≤ length (now problem) ⌝ }
     ensures { λ r. ⌜ r ≡ twoAt first second witnesses (now (problem .entry)) at ⌝ }
 {
@@ -117,7 +117,7 @@ fn two_at(problem: &[u8], at: usize, first: usize, second: usize, witnesses: u8)
 }
 
 // Three operands, each below its bound.
-fn three_at(problem: &[u8], at: usize, p: usize, q: usize, s: usize) -> Parsed
+fn three_at(problem: &[u8], at: usize, p: usize, q: usize, s: usize) -> Scanned
     requires { ⌜ at ≤ length (now problem) ⌝ }
     ensures { λ r. ⌜ r ≡ threeAt p q s (now (problem .entry)) at ⌝ }
 {
@@ -137,7 +137,7 @@ fn three_at(problem: &[u8], at: usize, p: usize, q: usize, s: usize) -> Parsed
 }
 
 // A set, a count, and as many terms: the part that has them is looked at where it stands.
-fn list_at(problem: &[u8], at: usize, sizes: Sizes) -> Parsed
+fn list_at(problem: &[u8], at: usize, sizes: Sizes) -> Scanned
     requires { ⌜ at ≤ length (now problem) ⌝ }
     ensures { λ r. ⌜ r ≡ listAt (sizes .nameable) (sizes .sets) (now (problem .entry)) at ⌝ }
 {
@@ -160,7 +160,7 @@ fn list_at(problem: &[u8], at: usize, sizes: Sizes) -> Parsed
 }
 
 // A set and two terms, which are constants with no whole number missing between them.
-fn interval_at(problem: &[u8], at: usize, sizes: Sizes) -> Parsed
+fn interval_at(problem: &[u8], at: usize, sizes: Sizes) -> Scanned
     requires { ⌜ (at ≤ length (now problem)) × (1 + 2 * sizes .constants ≤ length (now problem)) × (sizes .constants < 256) × ConstantsRise (now problem) (sizes .constants) ⌝ }
     ensures { λ r. ⌜ r ≡ intervalAt (sizes .constants) (sizes .nameable) (sizes .sets) (now (problem .entry)) at ⌝ }
 {
@@ -183,9 +183,9 @@ fn interval_at(problem: &[u8], at: usize, sizes: Sizes) -> Parsed
 }
 
 // The questions of one constraint (2, 7, 2, 8, 9), in their order.
-pub fn constraint_at(problem: &[u8], at: usize, sizes: Sizes) -> Parsed
+pub fn constraint_at(problem: &[u8], at: usize, sizes: Sizes) -> Scanned
     requires { ⌜ (at ≤ length (now problem)) × (length (now problem) ≤ mostBytes) × (1 + 2 * sizes .constants ≤ length (now problem)) × (sizes .constants < 256) × (sizes .nameable < 512) × (sizes .sets ≤ mostSets) × ConstantsRise (now problem) (sizes .constants) ⌝ }
-    ensures { λ r. ⌜ r ≡ parsedOf (length (now (problem .entry))) (constraint (constantsOf (now (problem .entry)) (sizes .constants)) (sizes .nameable) (sizes .sets) 0 (drop at (now (problem .entry)))) ⌝ }
+    ensures { λ r. ⌜ r ≡ scannedOf (length (now (problem .entry))) (constraint (constantsOf (now (problem .entry)) (sizes .constants)) (sizes .nameable) (sizes .sets) 0 (drop at (now (problem .entry)))) ⌝ }
 {
     if problem.len() <= at {
         refused(2)

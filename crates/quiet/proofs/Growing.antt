@@ -14,13 +14,13 @@ use Rattle.calculus.specs.Relations.{Rule, applies}
 use Rattle.calculus.specs.Branch.{Branch, rootAt}
 use Rattle.calculus.proofs.Bools.{and-l, and-r, and-i, or-cases, or-l, or-r, not-f, test, each-all, all-each, Each-imp, Each-zip}
 use Rattle.calculus.proofs.Walk.{moved, moved-hi, moved-other}
-use Rattle.branch.specs.Rows.{known}
+use Rattle.branch.specs.Rows.{literalKnown}
 use Rattle.quiet.proofs.Sayings.{Saying, literal, holds, says}
 
 -- c knows what b knew. Of root lo it also knows the literals of a word and what was known of root hi, whose class is now lo's.
 pub record Grows (b c : Branch) (lo hi word : ℕ) : Type 0 where
   pub roots : (t : ℕ) → rootAt c t ≡ moved lo hi (rootAt b t)
-  pub facts : (k j : ℕ) → known c k j ≡ (known b k j || (eqb j lo && (bit word k || known b k hi)))
+  pub facts : (k j : ℕ) → literalKnown c k j ≡ (literalKnown b k j || (eqb j lo && (bit word k || literalKnown b k hi)))
   pub low-root : rootAt b lo ≡ lo
   pub high-root : rootAt b hi ≡ hi
 
@@ -58,9 +58,9 @@ module _ {b c : Branch} {lo hi word : ℕ} (g : Grows b c lo hi word) where
   still-said h (holds u) e = eq-eqb (moved lo hi h) (rootAt c (u .index)) (ap (moved lo hi) (eqb-true h (rootAt b (u .index)) e) ∙ sym (g .roots (u .index)))
   still-said h (literal k) e = go (ℕ-discrete h hi)
     where
-      go : Dec (h ≡ hi) → known c k (moved lo hi h) ≡ true
-      go (yes q) = rw (q, moved-hi lo hi, g .facts k lo, eq-eqb lo lo refl) (or-r (known b k lo) (or-r (bit word k) (ap (known b k) (sym q) ∙ e)))
-      go (no q) = rw (moved-other lo hi h q, g .facts k h) (or-l (eqb h lo && (bit word k || known b k hi)) e)
+      go : Dec (h ≡ hi) → literalKnown c k (moved lo hi h) ≡ true
+      go (yes q) = rw (q, moved-hi lo hi, g .facts k lo, eq-eqb lo lo refl) (or-r (literalKnown b k lo) (or-r (bit word k) (ap (literalKnown b k) (sym q) ∙ e)))
+      go (no q) = rw (moved-other lo hi h q, g .facts k h) (or-l (eqb h lo && (bit word k || literalKnown b k hi)) e)
 
   -- an old literal was known of this root, or of hi if this is lo
   abbrev Before : ℕ → Saying → Type 0
@@ -68,11 +68,11 @@ module _ {b c : Branch} {lo hi word : ℕ} (g : Grows b c lo hi word) where
 
   said-before : (p : ℕ) (x : Saying) → Old word x → says c p x ≡ true → Before p x
   said-before p (holds u) f e = absurd f
-  said-before p (literal k) f e = go (or-cases (known b k p) (eqb p lo && (bit word k || known b k hi)) (sym (g .facts k p) ∙ e))
+  said-before p (literal k) f e = go (or-cases (literalKnown b k p) (eqb p lo && (bit word k || literalKnown b k hi)) (sym (g .facts k p) ∙ e))
     where
-      go : (known b k p ≡ true) ⊎ ((eqb p lo && (bit word k || known b k hi)) ≡ true) → Before p (literal k)
+      go : (literalKnown b k p ≡ true) ⊎ ((eqb p lo && (bit word k || literalKnown b k hi)) ≡ true) → Before p (literal k)
       go (inl q) = inl q
-      go (inr q) = inr (eqb-true p lo (and-l (eqb p lo) (bit word k || known b k hi) q), ap (λ (y : Bool). y || known b k hi) (sym f) ∙ and-r (eqb p lo) (bit word k || known b k hi) q)
+      go (inr q) = inr (eqb-true p lo (and-l (eqb p lo) (bit word k || literalKnown b k hi) q), ap (λ (y : Bool). y || literalKnown b k hi) (sym f) ∙ and-r (eqb p lo) (bit word k || literalKnown b k hi) q)
 
   module _ (r : Rule Saying) where
     -- some premises were said of a root whose class is now that of p, and the rule did not apply there

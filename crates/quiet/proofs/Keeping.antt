@@ -22,7 +22,7 @@ use Rattle.calculus.proofs.SearchLaws.{first-next, none-found}
 use Rattle.calculus.proofs.Sequences.{up-each, up-at, keep-each, keep-at}
 use Rattle.places.specs.Places.{RuleOf, rowOf, roots, firstAt}
 use Rattle.branch.specs.Rows.{literalCount}
-use Rattle.rules.specs.Rows.{numberOf}
+use Rattle.rules.specs.Rows.{literalNumber}
 use Rattle.rules.proofs.RowBits.{known-in, known-out, number-low}
 use Rattle.quiet.specs.Quiet.{Idle, needs, pairs}
 use Rattle.quiet.proofs.Sayings.{Saying, literal, holds, says, literalOf, tabled, chosen, once, tabled-said, chosen-said}
@@ -71,7 +71,7 @@ module _ {b c : Branch} {lo hi word : ℕ} (g : Grows b c lo hi word) where
     relation-kept : (k : Relation) (A B C : SetVar) (j : ℕ) → Spared n (relation k A B C) lo hi word → RuleOf (relation k A B C) j → Kept (relation k A B C) j
     relation-kept k A B C j s o = roots-kept (tabled A B C (rowOf k j)) (λ x h. applies (known x) (at (term h) (operandOf A B C) (rowOf k j)))
         (λ x h e. tabled-said x h h e A B C (s .in-range) (rowOf k j))
-        (Each-map (Old word) (literalOf A B C) (rowOf k j .premises) (unneeded-old word (numberOf (operandOf (A .index) (B .index) (C .index))) (number-low (A .index) (B .index) (C .index) (s .in-range)) (rowOf k j .premises) (λ i l e. s .unneeded j i l o e)))
+        (Each-map (Old word) (literalOf A B C) (rowOf k j .premises) (unneeded-old word (literalNumber (operandOf (A .index) (B .index) (C .index))) (number-low (A .index) (B .index) (C .index) (s .in-range)) (rowOf k j .premises) (λ i l e. s .unneeded j i l o e)))
         (rw (length-map (rowOf k j .premises) (literalOf A B C)) (s .unpaired j o))
 
     -- rules 19 and 20

@@ -13,7 +13,7 @@ use Rattle.calculus.specs.Search.{at, choose}
 use Rattle.calculus.proofs.Bools.{any-map}
 use Rattle.calculus.proofs.RuleLaws.{applies-map}
 use Rattle.branch.specs.Rows as rows
-use Rattle.rules.specs.Rows.{numberOf}
+use Rattle.rules.specs.Rows.{literalNumber}
 use Rattle.rules.proofs.RowBits.{known-in, applies-at}
 
 pub data Saying : Type 0 where
@@ -21,12 +21,12 @@ pub data Saying : Type 0 where
   holds : Term → Saying
 
 abbrev pub says : Branch → ℕ → Saying → Bool
-says b h (literal k) = rows.known b k h
+says b h (literal k) = rows.literalKnown b k h
 says b h (holds u) = eqb h (rootAt b (u .index))
 
 -- a literal of a row, a row of the tables, and rule 20
 abbrev pub literalOf : (A B C : SetVar) → Literal → Saying
-literalOf A B C x = literal (numberOf (operandOf (A .index) (B .index) (C .index)) x)
+literalOf A B C x = literal (literalNumber (operandOf (A .index) (B .index) (C .index)) x)
 
 abbrev pub tabled : (A B C : SetVar) → Rule Literal → Rule Saying
 tabled A B C r = mapRule (literalOf A B C) r

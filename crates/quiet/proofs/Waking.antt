@@ -20,7 +20,7 @@ use Rattle.calculus.proofs.Bools.{or-none-l, or-none-r, clash}
 use Rattle.calculus.proofs.Masks.{bit-or, bit-zero}
 use Rattle.problem.specs.Table.{noConstraint}
 use Rattle.branch.specs.declared.Branch.{Branch}
-use Rattle.branch.specs.Rows.{known, literals, literalCount}
+use Rattle.branch.specs.Rows.{literalKnown, literals, literalCount}
 use Rattle.branch.specs.Held.{held, noting, merging, Sound}
 use Rattle.branch.proofs.Rowing.{noted-known, merged-root, merged-known}
 use Rattle.quiet.specs.Quiet.{Quiet, pairs, WordsOf, pairMark, markWord}
@@ -49,7 +49,7 @@ module _ {cs : List Term} {b : Branch} (s : Sound cs b) where
   unfolding rootAt noting
   noted-grows {h} ins outs l e = record {
     roots = λ t. sym (moved-none h (rootAt (held b) t));
-    facts = λ k j. noted-known cs b (s .good) h ins outs l k j ∙ absorbed (known (held b) k j) (eqb j h) (bit (literals ins outs) k) (known (held b) k h) (λ q. ap (known (held b) k) (sym (eqb-true j h q)));
+    facts = λ k j. noted-known cs b (s .good) h ins outs l k j ∙ absorbed (literalKnown (held b) k j) (eqb j h) (bit (literals ins outs) k) (literalKnown (held b) k h) (λ q. ap (literalKnown (held b) k) (sym (eqb-true j h q)));
     low-root = e;
     high-root = e;
   }
@@ -57,7 +57,7 @@ module _ {cs : List Term} {b : Branch} (s : Sound cs b) where
   pub merged-grows : {lo hi : ℕ} → lo < hi → hi < mostTerms → rootAt (held b) lo ≡ lo → rootAt (held b) hi ≡ hi → Grows (held b) (held (merging b lo hi .branch)) lo hi 0
   merged-grows {lo} {hi} l h el eh = record {
     roots = merged-root cs b (s .good) (s .rowed) lo hi l h el eh;
-    facts = λ k j. merged-known cs b (s .good) (s .rowed) lo hi l h el eh k j ∙ ap (λ (x : Bool). known (held b) k j || (eqb j lo && (x || known (held b) k hi))) (sym (bit-zero k));
+    facts = λ k j. merged-known cs b (s .good) (s .rowed) lo hi l h el eh k j ∙ ap (λ (x : Bool). literalKnown (held b) k j || (eqb j lo && (x || literalKnown (held b) k hi))) (sym (bit-zero k));
     low-root = el;
     high-root = eh;
   }

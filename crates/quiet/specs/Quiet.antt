@@ -15,7 +15,7 @@ use Rattle.calculus.specs.Branch.{Branch}
 use Rattle.problem.specs.Table.{noConstraint}
 use Rattle.places.specs.Places.{spanOf, splitSpan, InSpan, RuleOf, rowOf, entriesOf, firstAt}
 use Rattle.branch.specs.Rows.{literalCount}
-use Rattle.rules.specs.Rows.{numberOf}
+use Rattle.rules.specs.Rows.{literalNumber}
 
 -- no propagation rule of a constraint applies, or no split
 abbrev pub Idle : Bool → ℕ → Branch → Constraint → Type 0
@@ -31,7 +31,7 @@ needs (member t A) j k = false
 needs (nonmember t A) j k = false
 needs (same t u) j k = false
 needs (different t u) j k = false
-needs (relation r A B C) j k = any (λ (x : Literal). eqb (numberOf (operandOf (A .index) (B .index) (C .index)) x) k) (rowOf r j .premises)
+needs (relation r A B C) j k = any (λ (x : Literal). eqb (literalNumber (operandOf (A .index) (B .index) (C .index)) x) k) (rowOf r j .premises)
 needs (negation r A B C w) j k = false
 needs (exactly A es) j k = eqb j 20 && eqb (A .index) k
 needs (interval A x y es) j k = eqb j 20 && eqb (A .index) k

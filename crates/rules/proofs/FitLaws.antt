@@ -27,7 +27,7 @@ use Rattle.calculus.specs.Relations.{operandOf}
 use Rattle.calculus.proofs.Walk.{walk-root, root-walk}
 use Rattle.calculus.specs.Invariants.{ConstraintIn}
 use Rattle.branch.specs.Held.{rootOf}
-use Rattle.branch.specs.Rows.{known, RowsOf, literalCount}
+use Rattle.branch.specs.Rows.{literalKnown, RowsOf, literalCount}
 use Rattle.branch.proofs.Roots.{root-is, root-range}
 use Rattle.places.specs.Places.{RuleOf, rowOf, moveAt, listMove, entriesOf, roots, positions, firstAt}
 use Rattle.places.proofs.Offered.{by-position}
@@ -43,8 +43,8 @@ use Rattle.rules.specs.declared.Child.{Child}
 use Rattle.rules.specs.declared.Denial.{Denial}
 use Rattle.rules.specs.declared.Row.{Row as Code}
 use Rattle.rules.specs.declared.Split.{Split}
-use Rattle.rules.specs.Rows.{numbered, sets, HasRow, splitting, numberOf, laid, parted, denying}
-use Rattle.rules.specs.Words.{forcedWord, dividedWord, deniedWord, metWord, LowChild, LowDenial, missed, OfRoots, Listing, Lent, Asked, Fits, FitsFor}
+use Rattle.rules.specs.Rows.{numbered, sets, HasRow, splitting, literalNumber, laid, parted, denying}
+use Rattle.rules.specs.Words.{forcedWord, dividedWord, deniedWord, metWord, LowChild, LowDenial, missed, OfRoots, ByEntries, Lent, Asked, Fits, FitsFor}
 use Rattle.rules.proofs.TableTests.{row-of, denied-row, forcedTest, dividedTest, deniedTest}
 use Rattle.rules.proofs.Lowest.{at-one, first-map, map-map, first-range, single, one-fits, roots-fits}
 use Rattle.rules.proofs.RowBits.{known-in, known-out, applies-at, laid-low, parted-low, denying-low, forced-bits, divided-bits, met-bits, met-small, but-bits, but-three}
@@ -59,8 +59,8 @@ module _ (ps rows es : List ℕ) (j : ℕ) where
   IsWord (Different t u) w = w ≡ bitAnd (2 ^ rootOf ps (t .0)) (2 ^ rootOf ps (u .0))
   IsWord (Related k A B C) w = (splitting j ≡ false → w ≡ forcedWord rows (laid (sets A B C) (numbered j))) × (splitting j ≡ true → w ≡ dividedWord rows (parted (sets A B C) (numbered j)))
   IsWord (Negated k A B C x) w = w ≡ deniedWord rows (denying (sets A B C) (negationRow (negationOf k))) (rootOf ps (x .0))
-  IsWord (Exactly A) w = Listing ps (getD rows (A .0) 0) es j w
-  IsWord (Interval A x y) w = Listing ps (getD rows (A .0) 0) es j w
+  IsWord (Exactly A) w = ByEntries ps (getD rows (A .0) 0) es j w
+  IsWord (Interval A x y) w = ByEntries ps (getD rows (A .0) 0) es j w
 
 -- a test of one fact
 once : (a : Bool) → not ((a && true) || false) ≡ not a
@@ -94,8 +94,8 @@ module _ (n : ℕ) (b : Branch) (rows : List ℕ) (of : RowsOf b rows) (fall : F
   own t = is (rt t) ∙ root-own (b .parents) fall t
 
   -- what a row says of a root
-  row-at : (k t : ℕ) → k < literalCount → t < n → bit (getD rows k 0) (rt t) ≡ known b k (rt t)
-  row-at k t l m = of .says k (rt t) l (low64 t m) ∙ ap (λ (q : Bool). q && known b k (rt t)) (eq-eqb (rootAt b (rt t)) (rt t) (own t))
+  row-at : (k t : ℕ) → k < literalCount → t < n → bit (getD rows k 0) (rt t) ≡ literalKnown b k (rt t)
+  row-at k t l m = of .says k (rt t) l (low64 t m) ∙ ap (λ (q : Bool). q && literalKnown b k (rt t)) (eq-eqb (rootAt b (rt t)) (rt t) (own t))
 
   -- a rule that is tested at the root of term t alone
   one-at : (l : Constraint) (j t : ℕ) → t < n → positions n b l j ≡ rootAt b t ∷ [] → ((p : ℕ) → moveAt b l j p .0 ≡ root b (term t)) → (c : Bool) → applies (calculus.known b) (moveAt b l j (rt t) .1) ≡ c → (w : ℕ) → ((h : ℕ) → bit w h ≡ (eqb h (rt t) && c)) → Fits n b l j w
@@ -114,7 +114,7 @@ module _ (n : ℕ) (b : Branch) (rows : List ℕ) (of : RowsOf b rows) (fall : F
 
   module _ (k : Relation) (A B C : SetVar) (j : ℕ) (r : RuleOf (relation k A B C) j) (lows : (A .index < mostSets) × (B .index < mostSets) × (C .index < mostSets)) where
     abbrev K : ℕ → Literal → Bool
-    K h l = known b (numberOf (operandOf (A .index) (B .index) (C .index)) l) h
+    K h l = literalKnown b (literalNumber (operandOf (A .index) (B .index) (C .index)) l) h
 
     here : (h : ℕ) → rootAt b h ≡ h → applies (calculus.known b) (moveAt b (relation k A B C) j h .1) ≡ applies (K h) (numbered j)
     here h e = applies-at b h h e A B C lows (rowOf k j) ∙ ap (applies (K h)) (row-of k A B C j r .is)
@@ -148,10 +148,10 @@ module _ (n : ℕ) (b : Branch) (rows : List ℕ) (of : RowsOf b rows) (fall : F
       small = denying-low (A .index) (B .index) (C .index) lows (negationRow k)
 
       K : Literal → Bool
-      K l = known b (numberOf (operandOf (A .index) (B .index) (C .index)) l) (rt t)
+      K l = literalKnown b (literalNumber (operandOf (A .index) (B .index) (C .index)) l) (rt t)
 
-      met : (c : Child) → LowChild c → bit (metWord rows c) (rt t) ≡ ((known b (c .0 .0) (rt t) && known b (c .1 .0) (rt t)) && known b (c .2 .0) (rt t))
-      met c x = met-bits b rows of (rt t) (low64 t lt) c x ∙ ap (λ (q : Bool). q && ((known b (c .0 .0) (rt t) && known b (c .1 .0) (rt t)) && known b (c .2 .0) (rt t))) (eq-eqb (rootAt b (rt t)) (rt t) (own t))
+      met : (c : Child) → LowChild c → bit (metWord rows c) (rt t) ≡ ((literalKnown b (c .0 .0) (rt t) && literalKnown b (c .1 .0) (rt t)) && literalKnown b (c .2 .0) (rt t))
+      met c x = met-bits b rows of (rt t) (low64 t lt) c x ∙ ap (λ (q : Bool). q && ((literalKnown b (c .0 .0) (rt t) && literalKnown b (c .1 .0) (rt t)) && literalKnown b (c .2 .0) (rt t))) (eq-eqb (rootAt b (rt t)) (rt t) (own t))
 
   -- ---- lists
 
@@ -166,13 +166,13 @@ module _ (n : ℕ) (b : Branch) (rows : List ℕ) (of : RowsOf b rows) (fall : F
     abbrev holds : Term × Move → Bool
     holds m = applies (calculus.known b) (m .1)
 
-    entry-holds : (x : ℕ) → holds (G (term x)) ≡ not (known b (A .index) (rt x))
+    entry-holds : (x : ℕ) → holds (G (term x)) ≡ not (literalKnown b (A .index) (rt x))
     entry-holds x = once (calculus.known b (In (term x) A)) ∙ ap not (known-in b x (rt x) (is x) A lowA)
 
     -- the first entry where it applies
     first-entry : (xs : List ℕ) → Each (λ e. e < n) xs → Option·map (λ (m : Term × Move). m .0 .index) (first holds (map G (map term xs))) ≡ first (bit (missed (b .parents) row xs)) (upFrom 0 n)
     first-entry [] e = sym (none-found (bit 0) (upFrom 0 n) (Each-all (λ h. bit 0 h ≡ false) bit-zero (upFrom 0 n)))
-    first-entry (x ∷ xs) (l, e) = go (known b (A .index) (rt x)) (entry-holds x) (row-at (A .index) x (omega arith) l) (first-entry xs e)
+    first-entry (x ∷ xs) (l, e) = go (literalKnown b (A .index) (rt x)) (entry-holds x) (row-at (A .index) x (omega arith) l) (first-entry xs e)
       where
         Rest : Type 0
         Rest = Option·map (λ (m : Term × Move). m .0 .index) (first holds (map G (map term xs))) ≡ first (bit (missed (b .parents) row xs)) (upFrom 0 n)
@@ -188,17 +188,17 @@ module _ (n : ℕ) (b : Branch) (rows : List ℕ) (of : RowsOf b rows) (fall : F
 
     -- the row has roots only
     of-roots : OfRoots (b .parents) row
-    of-roots h l t = sym (is h) ∙ eqb-true (rootAt b h) h (and-l (eqb (rootAt b h) h) (known b (A .index) h) (sym (of .says (A .index) h (omega arith) l) ∙ t))
+    of-roots h l t = sym (is h) ∙ eqb-true (rootAt b h) h (and-l (eqb (rootAt b h) h) (literalKnown b (A .index) h) (sym (of .says (A .index) h (omega arith) l) ∙ t))
 
     -- rule 20 at root h
-    chosen : (h : ℕ) → rootAt b h ≡ h → (es : List ℕ) → applies (calculus.known b) (choose [] b A (map term es) (term h)) ≡ (known b (A .index) h && not (any (λ (e : ℕ). eqb (rt e) h) es))
+    chosen : (h : ℕ) → rootAt b h ≡ h → (es : List ℕ) → applies (calculus.known b) (choose [] b A (map term es) (term h)) ≡ (literalKnown b (A .index) h && not (any (λ (e : ℕ). eqb (rt e) h) es))
     chosen h e es = ap₂ (λ (x y : Bool). x && not y) (and-true (calculus.known b (In (term h) A)) ∙ known-in b h h e A lowA)
         (class-known b h e es)
 
-    module _ (l : Constraint) (j : ℕ) (es : List ℕ) (each : Each (λ e. e < n) es) (w : ℕ) (f : Listing (b .parents) row es j w)
+    module _ (l : Constraint) (j : ℕ) (es : List ℕ) (each : Each (λ e. e < n) es) (w : ℕ) (f : ByEntries (b .parents) row es j w)
         (move : (p : ℕ) → moveAt b l j p ≡ listMove b A (map term es) j p) (at : positions n b l j ≡ cond (eqb j 19) (upFrom 0 (length (map term es))) (roots n b)) where
-      listing-fits : j ≡ 19 → Fits n b l j w
-      listing-fits q =
+      entering-fits : j ≡ 19 → Fits n b l j w
+      entering-fits q =
           let t : eqb j 19 ≡ true = eq-eqb j 19 q in
           let m : (p : ℕ) → moveAt b l j p ≡ G (getD (map term es) p (term 0)) = λ p. move p ∙ ap (λ (x : Bool). cond x (G (getD (map term es) p (term 0))) (term p, choose [] b A (map term es) (term p))) t in
           let ps : positions n b l j ≡ upFrom 0 (length (map term es)) = at ∙ ap (λ (x : Bool). cond x (upFrom 0 (length (map term es))) (roots n b)) t in
@@ -215,15 +215,15 @@ module _ (n : ℕ) (b : Branch) (rows : List ℕ) (of : RowsOf b rows) (fall : F
           let m : (p : ℕ) → moveAt b l j p ≡ (term p, choose [] b A (map term es) (term p)) = λ p. move p ∙ ap (λ (x : Bool). cond x (G (getD (map term es) p (term 0))) (term p, choose [] b A (map term es) (term p))) t in
           roots-fits n b l j few (at ∙ ap (λ (x : Bool). cond x (upFrom 0 (length (map term es))) (roots n b)) t) (λ p. ap (λ (x : Term × Move). x .0 .index) (m p)) w
           (λ h k. f .of-20 of-roots q h k ∙ ap (λ (x : Bool). x && not (any (λ (e : ℕ). eqb (rt e) h) es)) (of .says (A .index) h (omega arith) k)
-          ∙ and-assoc (eqb (rootAt b h) h) (known b (A .index) h) (not (any (λ (e : ℕ). eqb (rt e) h) es))
-          ∙ root-bits (eqb (rootAt b h) h) (known b (A .index) h && not (any (λ (e : ℕ). eqb (rt e) h) es)) (applies (calculus.known b) (moveAt b l j h .1))
+          ∙ and-assoc (eqb (rootAt b h) h) (literalKnown b (A .index) h) (not (any (λ (e : ℕ). eqb (rt e) h) es))
+          ∙ root-bits (eqb (rootAt b h) h) (literalKnown b (A .index) h && not (any (λ (e : ℕ). eqb (rt e) h) es)) (applies (calculus.known b) (moveAt b l j h .1))
           (λ z. sym (ap (λ (x : Term × Move). applies (calculus.known b) (x .1)) (m h) ∙ chosen h (eqb-true (rootAt b h) h z) es)))
 
       list-fits : Fits n b l j w
       list-fits = go (ℕ-discrete j 19)
         where
           go : Dec (j ≡ 19) → Fits n b l j w
-          go (yes q) = listing-fits q
+          go (yes q) = entering-fits q
           go (no q) = choosing-fits q
 
 -- ---- every constraint

@@ -21,30 +21,30 @@ use Rattle.calculus.proofs.Masks.{bit-or, bit-and, bit-pow}
 use Rattle.calculus.specs.Relations.{operandOf}
 use Rattle.calculus.proofs.RuleLaws.{applies-map}
 use Rattle.bits.proofs.Bits.{bit-without}
-use Rattle.branch.specs.Rows.{known, RowsOf, literalCount}
+use Rattle.branch.specs.Rows.{literalKnown, RowsOf, literalCount}
 use Rattle.terms.specs.declared.SetVar.{SetVar as SetIndex}
 use Rattle.rules.specs.declared.Literal.{Literal as Coded}
 use Rattle.rules.specs.declared.Row.{Row}
 use Rattle.rules.specs.declared.Split.{Split}
 use Rattle.rules.specs.declared.Child.{Child}
-use Rattle.rules.specs.Rows.{numberOf, head, second, last, childAt, lastChild, left, right, laid, parted, child, denying}
+use Rattle.rules.specs.Rows.{literalNumber, head, second, last, childAt, lastChild, leftOperand, rightOperand, laid, parted, child, denying}
 use Rattle.rules.specs.Words.{Low, rowAt, LowRow, LowSplit, LowChild, LowDenial, forcedWord, decidedWord, dividedWord, metWord}
 use Rattle.rules.proofs.Lowest.{at-one}
 
 -- ---- literals: of a term t whose root is h
 
 module _ (b : Branch) (t h : ℕ) (own : rootAt b t ≡ h) where
-  pub known-in : (X : SetVar) → X .index < mostSets → calculus.known b (In (term t) X) ≡ known b (X .index) h
+  pub known-in : (X : SetVar) → X .index < mostSets → calculus.known b (In (term t) X) ≡ literalKnown b (X .index) h
   known-in X l = ap (λ (k : ℕ). inside b (term k) X) own ∙ sym (ap (λ (q : Bool). cond q (inside b (term h) X) (outside b (term h) (setVar (X .index - mostSets)))) (lt-ltb (X .index) mostSets l))
 
-  pub known-out : (X : SetVar) → X .index < mostSets → calculus.known b (Out (term t) X) ≡ known b (mostSets + X .index) h
+  pub known-out : (X : SetVar) → X .index < mostSets → calculus.known b (Out (term t) X) ≡ literalKnown b (mostSets + X .index) h
   known-out X l =
       let e : mostSets + X .index - mostSets ≡ X .index = omega arith in
       ap (λ (k : ℕ). outside b (term k) X) own
       ∙ sym (ap₂ (λ (q : Bool) (k : ℕ). cond q (inside b (term h) (setVar (mostSets + X .index))) (outside b (term h) (setVar k))) (le-ltb (mostSets + X .index) 8 (omega arith)) e)
 
   module _ (A B C : SetVar) (low : (A .index < mostSets) × (B .index < mostSets) × (C .index < mostSets)) where
-    literal-known : (l : Literal) → calculus.known b (factOf (term t) (operandOf A B C) l) ≡ known b (numberOf (operandOf (A .index) (B .index) (C .index)) l) h
+    literal-known : (l : Literal) → calculus.known b (factOf (term t) (operandOf A B C) l) ≡ literalKnown b (literalNumber (operandOf (A .index) (B .index) (C .index)) l) h
     literal-known (R.In R.A) = known-in A (low .0)
     literal-known (R.In R.B) = known-in B (low .1)
     literal-known (R.In R.C) = known-in C (low .2)
@@ -53,7 +53,7 @@ module _ (b : Branch) (t h : ℕ) (own : rootAt b t ≡ h) where
     literal-known (R.Out R.C) = known-out C (low .2)
 
     -- a rule applies there by its literals' numbers
-    pub applies-at : (r : Rule Literal) → applies (calculus.known b) (at (term t) (operandOf A B C) r) ≡ applies (λ (l : Literal). known b (numberOf (operandOf (A .index) (B .index) (C .index)) l) h) r
+    pub applies-at : (r : Rule Literal) → applies (calculus.known b) (at (term t) (operandOf A B C) r) ≡ applies (λ (l : Literal). literalKnown b (literalNumber (operandOf (A .index) (B .index) (C .index)) l) h) r
     applies-at r = applies-map (factOf (term t) (operandOf A B C)) (calculus.known b) r ∙ ap (λ (f : Literal → Bool). applies f r) (fun-ext literal-known)
 
 -- ---- what the code lays out of a rule has rows
@@ -67,7 +67,7 @@ module _ (A B C : ℕ) (low : (A < mostSets) × (B < mostSets) × (C < mostSets)
   operand-low R.B = low .1
   operand-low R.C = low .2
 
-  pub number-low : (l : Literal) → numberOf S l < literalCount
+  pub number-low : (l : Literal) → literalNumber S l < literalCount
   number-low (R.In p) = omega (arith, operand-low p)
   number-low (R.Out p) = omega (arith, operand-low p)
 
@@ -75,7 +75,7 @@ module _ (A B C : ℕ) (low : (A < mostSets) × (B < mostSets) × (C < mostSets)
   laid-low r = (number-low (head (r .premises)), number-low (last (r .premises)), number-low (head (childAt 0 r)))
 
   pub parted-low : (r : Rule Literal) → LowSplit (parted S r)
-  parted-low r = (number-low (head (r .premises)), operand-low (left r), operand-low (right r))
+  parted-low r = (number-low (head (r .premises)), operand-low (leftOperand r), operand-low (rightOperand r))
 
   pub child-low : (ls : List Literal) → LowChild (child S ls)
   child-low ls = (number-low (head ls), number-low (second ls), number-low (last ls))
@@ -117,7 +117,7 @@ module _ (b : Branch) (rows : List ℕ) (of : RowsOf b rows) where
     own = eqb (rootAt b h) h
 
     abbrev K : Coded → Bool
-    K k = known b (k .0) h
+    K k = literalKnown b (k .0) h
 
     says : (k : Coded) → Low k → bit (row k) h ≡ (own && K k)
     says k p = of .says (k .0) h p l
@@ -129,16 +129,16 @@ module _ (b : Branch) (rows : List ℕ) (of : RowsOf b rows) where
         ∙ ap₂ (λ (m n : Bool). m && not n) (bit-and (row (r .0)) (row (r .1)) h ∙ ap₂ _&&_ (says (r .0) x) (says (r .1) y)) (says (r .2) z)
         ∙ forced-root own (K (r .0)) (K (r .1)) (K (r .2))
 
-    decided-bits : (a : SetIndex) → a .0 < mostSets → bit (decidedWord rows a) h ≡ ((own && known b (a .0) h) || (own && known b (mostSets + a .0) h))
+    decided-bits : (a : SetIndex) → a .0 < mostSets → bit (decidedWord rows a) h ≡ ((own && literalKnown b (a .0) h) || (own && literalKnown b (mostSets + a .0) h))
     unfolding decidedWord
     decided-bits a p = bit-or (getD rows (a .0) 0) (getD rows (mostSets + a .0) 0) h ∙ ap₂ _||_ (of .says (a .0) h (omega arith) l) (of .says (mostSets + a .0) h (omega arith) l)
 
-    pub divided-bits : (s : Split) → LowSplit s → bit (dividedWord rows s) h ≡ (own && (K (s .0) && not ((known b (s .1 .0) h || known b (mostSets + s .1 .0) h) || (known b (s .2 .0) h || known b (mostSets + s .2 .0) h))))
+    pub divided-bits : (s : Split) → LowSplit s → bit (dividedWord rows s) h ≡ (own && (K (s .0) && not ((literalKnown b (s .1 .0) h || literalKnown b (mostSets + s .1 .0) h) || (literalKnown b (s .2 .0) h || literalKnown b (mostSets + s .2 .0) h))))
     unfolding dividedWord
     divided-bits s (p, q, r) =
         bit-without 64 (row (s .0)) (bitOr (decidedWord rows (s .1)) (decidedWord rows (s .2))) h (small (s .0) p) (or-lt 64 (decidedWord rows (s .1)) (decidedWord rows (s .2)) (decided-small (s .1) q) (decided-small (s .2) r))
         ∙ ap₂ (λ (m n : Bool). m && not n) (says (s .0) p) (bit-or (decidedWord rows (s .1)) (decidedWord rows (s .2)) h ∙ ap₂ _||_ (decided-bits (s .1) q) (decided-bits (s .2) r))
-        ∙ divided-root own (K (s .0)) (known b (s .1 .0) h) (known b (mostSets + s .1 .0) h) (known b (s .2 .0) h) (known b (mostSets + s .2 .0) h)
+        ∙ divided-root own (K (s .0)) (literalKnown b (s .1 .0) h) (literalKnown b (mostSets + s .1 .0) h) (literalKnown b (s .2 .0) h) (literalKnown b (mostSets + s .2 .0) h)
 
     pub met-bits : (c : Child) → LowChild c → bit (metWord rows c) h ≡ (own && ((K (c .0) && K (c .1)) && K (c .2)))
     unfolding metWord

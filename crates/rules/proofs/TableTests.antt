@@ -15,7 +15,7 @@ use Rattle.calculus.proofs.Bools.{clash, same-test, imp-at, and-l, and-r, every
 use Rattle.calculus.proofs.Sequences.{up-at}
 use Rattle.calculus.specs.Relations.{operandOf, litKnown, rows}
 use Rattle.places.specs.Places.{RuleOf, firstRow, rowOf}
-use Rattle.rules.specs.Rows.{numbered, splitting, left, right, head, second, last, childAt, lastChild}
+use Rattle.rules.specs.Rows.{numbered, splitting, leftOperand, rightOperand, head, second, last, childAt, lastChild}
 
 -- ---- what the code tests
 
@@ -28,7 +28,7 @@ abbrev decided : (Literal → Bool) → R.Operand → Bool
 decided f p = f (R.In p) || f (R.Out p)
 
 abbrev pub dividedTest : (Literal → Bool) → Rule Literal → Bool
-dividedTest f r = f (head (r .premises)) && not (decided f (left r) || decided f (right r))
+dividedTest f r = f (head (r .premises)) && not (decided f (leftOperand r) || decided f (rightOperand r))
 
 -- a negation's split: of no child all literals are known
 abbrev pub metTest : (Literal → Bool) → List Literal → Bool

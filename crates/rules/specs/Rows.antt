@@ -52,9 +52,9 @@ abbrev pub splitting : ℕ → Bool
 splitting j = eqb j 12
 
 -- a literal's number, and the operand that it is of
-abbrev pub numberOf : (Operand → ℕ) → R.Literal → ℕ
-numberOf s (R.In p) = s p
-numberOf s (R.Out p) = mostSets + s p
+abbrev pub literalNumber : (Operand → ℕ) → R.Literal → ℕ
+literalNumber s (R.In p) = s p
+literalNumber s (R.Out p) = mostSets + s p
 
 abbrev pub operandIn : R.Literal → Operand
 operandIn (R.In p) = p
@@ -78,22 +78,22 @@ abbrev pub lastChild : Rule R.Literal → List R.Literal
 lastChild r = childAt (length (r .alternatives) - 1) r
 
 abbrev pub literal : (Operand → ℕ) → R.Literal → Literal
-literal s l = record { 0 = numberOf s l }
+literal s l = record { 0 = literalNumber s l }
 
 -- a propagation rule: its first and last premise, and what it gives
 abbrev pub laid : (Operand → ℕ) → Rule R.Literal → Row
 laid s r = record { 0 = literal s (head (r .premises)); 1 = literal s (last (r .premises)); 2 = literal s (head (childAt 0 r)) }
 
 -- the set of a split's first child, and the other set of the second
-abbrev pub left : Rule R.Literal → Operand
-left r = operandIn (head (childAt 0 r))
+abbrev pub leftOperand : Rule R.Literal → Operand
+leftOperand r = operandIn (head (childAt 0 r))
 
-abbrev pub right : Rule R.Literal → Operand
-right r = operandIn (last (childAt 1 r))
+abbrev pub rightOperand : Rule R.Literal → Operand
+rightOperand r = operandIn (last (childAt 1 r))
 
 -- a split at any class: its premise, and the two sets
 abbrev pub parted : (Operand → ℕ) → Rule R.Literal → Split
-parted s r = record { 0 = literal s (head (r .premises)); 1 = record { 0 = s (left r) }; 2 = record { 0 = s (right r) } }
+parted s r = record { 0 = literal s (head (r .premises)); 1 = record { 0 = s (leftOperand r) }; 2 = record { 0 = s (rightOperand r) } }
 
 -- a child by its literals, and of one alone
 abbrev pub child : (Operand → ℕ) → List R.Literal → Child

@@ -1,7 +1,7 @@
 // The rules: which a constraint has, what each needs and gives, and the roots at which it applies.
 use bits::bit_at;
 use bits::has_bit;
-use branch::find;
+use branch::root_at;
 use constraints::Constraint;
 use terms::OUT;
 use terms::SetVar;
@@ -17,7 +17,7 @@ ghost use Rattle.branch.specs.Held.{rootOf};
 ghost use Rattle.constraints.specs.Decoded.{decoded};
 ghost use Rattle.rules.specs.Spans.{Spanned};
 ghost use Rattle.rules.specs.Rows.{sets, numbered, HasRow, HasChild, laid, parted, only, child, literalsOf, countOf, denying};
-ghost use Rattle.rules.specs.Words.{unsharedOf, restsBy, Rooted, Lent, Long, Low, rowAt, LowRow, LowSplit, LowChild, LowDenial, forcedWord, dividedWord, metWord, deniedWord, RootBits, missed, EntryBits, Listing, Asked, FitsFor};
+ghost use Rattle.rules.specs.Words.{unsharedOf, restsBy, Parents, Lent, Long, Low, rowAt, LowRow, LowSplit, LowChild, LowDenial, forcedWord, dividedWord, metWord, deniedWord, RootBits, missed, EntryBits, ByEntries, Asked, FitsFor};
 
 // A literal, by its number: k is "in set k", OUT + k is "out of set k".
 pub struct Literal(pub u8);
@@ -189,15 +189,15 @@ fn met(rows: &[u64], c: Child) -> u64
 
 // The root of t's class.
 pub fn root(parents: &[u8], t: Term) -> Term
-    requires { ⌜ (t .0 < mostTerms) × Rooted (now parents) ⌝ }
+    requires { ⌜ (t .0 < mostTerms) × Parents (now parents) ⌝ }
     ensures { λ r. ⌜ (r .0 ≡ rootOf (now (parents .entry)) (t .0)) × (r .0 < mostTerms) ⌝ }
 {
-    Term(find(parents, t.0 as usize) as u8)
+    Term(root_at(parents, t.0 as usize) as u8)
 }
 
 // The root of two terms' class, as a bit, if it is one: there rule 4 applies.
 pub fn together(parents: &[u8], t: Term, u: Term) -> u64
-    requires { ⌜ (t .0 < mostTerms) × (u .0 < mostTerms) × Rooted (now parents) ⌝ }
+    requires { ⌜ (t .0 < mostTerms) × (u .0 < mostTerms) × Parents (now parents) ⌝ }
     ensures { λ r. ⌜ r ≡ bitAnd (2 ^ rootOf (now (parents .entry)) (t .0)) (2 ^ rootOf (now (parents .entry)) (u .0)) ⌝ }
 {
     bit_at(root(parents, t).0) & bit_at(root(parents, u).0)
@@ -212,8 +212,8 @@ fn denied(parents: &[u8], rows: &[u64], d: Denial, w: Term) -> u64
 }
 
 // The roots of the entries' classes.
-pub fn roots(list: &[u8], parents: &[u8]) -> u64
-    requires { ⌜ Each (λ e. e < mostTerms) (now list) × Rooted (now parents) ⌝ }
+pub fn entry_roots(list: &[u8], parents: &[u8]) -> u64
+    requires { ⌜ Each (λ e. e < mostTerms) (now list) × Parents (now parents) ⌝ }
     ensures { λ r. ⌜ RootBits (now (parents .entry)) (now (list .entry)) r ⌝ }
 {
     let mut found = 0u64;
@@ -225,7 +225,7 @@ pub fn roots(list: &[u8], parents: &[u8]) -> u64
 
 // The root of the first entry whose class is not in a row.
 fn first_missing(list: &[u8], parents: &[u8], row: u64) -> u64
-    requires { ⌜ Each (λ e. e < mostTerms) (now list) × Rooted (now parents) ⌝ }
+    requires { ⌜ Each (λ e. e < mostTerms) (now list) × Parents (now parents) ⌝ }
     ensures { λ r. ⌜ r ≡ missed (now (parents .entry)) row (now (list .entry)) ⌝ }
 {
     for p in 0..list.len() {
@@ -275,14 +275,14 @@ pub fn rests(parents: &[u8], rows: &[u64], entries: u64, l: Constraint, split: b
 }
 
 // Rules 19 and 20, of a set and its entries.
-fn listing(parents: &[u8], rows: &[u64], list: &[u8], entries: u64, a: SetVar, rule: u8) -> u64
+fn by_entries(parents: &[u8], rows: &[u64], list: &[u8], entries: u64, a: SetVar, rule: u8) -> u64
     requires { ⌜ Lent (now parents) (now rows) × EntryBits (now list) entries × (a .0 < mostSets) ⌝ }
-    ensures { λ r. ⌜ Listing (now (parents .entry)) (rowAt (now (rows .entry)) (record { 0 = a .0 })) (now (list .entry)) rule r ⌝ }
+    ensures { λ r. ⌜ ByEntries (now (parents .entry)) (rowAt (now (rows .entry)) (record { 0 = a .0 })) (now (list .entry)) rule r ⌝ }
 {
     if rule == 19 {
         return first_missing(list, parents, of(rows, Literal(a.0)));
     }
-    unshared(rows, entries, a, true) & !roots(list, parents)
+    unshared(rows, entries, a, true) & !entry_roots(list, parents)
 }
 
 // The roots, as bits, at which a rule of a constraint applies; of rule 19 only that of the first entry at which it does.
@@ -302,7 +302,7 @@ pub fn fitting(parents: &[u8], rows: &[u64], list: &[u8], word: u64, l: Constrai
             forced(rows, row_of(rule, a, b, c))
         }
         Constraint::Negated(_, a, b, c, w) => denied(parents, rows, denial_of(a, b, c), w),
-        Constraint::Exactly(a) => listing(parents, rows, list, word, a, rule),
-        Constraint::Interval(a, _, _) => listing(parents, rows, list, word, a, rule),
+        Constraint::Exactly(a) => by_entries(parents, rows, list, word, a, rule),
+        Constraint::Interval(a, _, _) => by_entries(parents, rows, list, word, a, rule),
     }
 }

@@ -39,8 +39,8 @@ use Rattle.quiet.specs.Quiet.{Idle, Quiet}
 use Rattle.search.specs.declared.Found.{Found}
 use Rattle.search.specs.First.{Prepared, nowhere, Finds}
 use Rattle.search.proofs.Order.{position-hit, position-miss, positions-done, positions-from, first-offer, no-place, place-at}
-use Rattle.search.specs.Turns.{Turn}
-use Rattle.search.proofs.Turns.{turn-of, entries-by}
+use Rattle.search.specs.Offsets.{AtOffset}
+use Rattle.search.proofs.Offsets.{turn-of, entries-by}
 
 -- ---- rules of a constraint
 
@@ -139,7 +139,7 @@ pub in-table : {split : Bool} {n among left : ℕ} {bs ps rows offsets witnesses
 in-table {left = left} {bs} {offsets = offsets} {witnesses} {t} d a h = omega (arith, constraint-count bs (tableBy t offsets witnesses) (d .opened), a .low (trailingZeros 64 left) (lowest-set 64 left (a .small) h))
 
 -- `span_of` is asked for the rules of the constraint whose turn it is
-span-here : {bs offsets witnesses : List ℕ} {i : ℕ} → Turn bs offsets witnesses i → (split : Bool) (first end : ℕ) → Spanned split (getD bs (getD offsets i 0) 0) first end → (first ≡ spanOf split (constraintOf bs i) .0) × (end ≡ spanOf split (constraintOf bs i) .1)
+span-here : {bs offsets witnesses : List ℕ} {i : ℕ} → AtOffset bs offsets witnesses i → (split : Bool) (first end : ℕ) → Spanned split (getD bs (getD offsets i 0) 0) first end → (first ≡ spanOf split (constraintOf bs i) .0) × (end ≡ spanOf split (constraintOf bs i) .1)
 span-here {bs} {offsets} {i = i} t split first end s = s (constraintOf bs i) (sym (kind-here bs i (getD offsets i 0) (t .stands)))
 
 -- at the first rule of the constraint whose turn it is
@@ -189,7 +189,7 @@ module _ {split : Bool} {n : ℕ} {bs ps rows : List ℕ} where
           go b z q i l y (no h) = a .quiet b z q i l (rw (bit-less 64 left i (a .small) more, ne-eqb i lowest h, and-true (bit left i)) at y)
 
       -- it has no rules
-      pub no-rules : {first end : ℕ} {offsets witnesses : List ℕ} {s : Found} → Turn bs offsets witnesses lowest → Spanned split (getD bs (getD offsets lowest 0) 0) first end → end ≤ first → s ≡ r → AtMask split n bs ps rows among (bitAnd left (left - 1)) s
+      pub no-rules : {first end : ℕ} {offsets witnesses : List ℕ} {s : Found} → AtOffset bs offsets witnesses lowest → Spanned split (getD bs (getD offsets lowest 0) 0) first end → end ≤ first → s ≡ r → AtMask split n bs ps rows among (bitAnd left (left - 1)) s
       no-rules {first} {end} t p k e =
           let q = span-here t split first end p in
           constraint-over (e ∙ a .nothing) (λ b z j v. absurd (omega (arith, q .0, q .1, v .0, v .1)))

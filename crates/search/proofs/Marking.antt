@@ -30,8 +30,8 @@ use Rattle.constraints.specs.Decoded.{Unpacked}
 use Rattle.rules.specs.Words.{EntryBits}
 use Rattle.quiet.specs.Quiet.{WordsOf, markCount, markWord, wordCount, pairMark, splitMark}
 use Rattle.search.specs.Marks.{NeedsOf, Marked}
-use Rattle.search.specs.Turns.{Turn}
-use Rattle.search.proofs.Turns.{entries-by}
+use Rattle.search.specs.Offsets.{AtOffset}
+use Rattle.search.proofs.Offsets.{entries-by}
 
 -- ---- marking
 
@@ -122,7 +122,7 @@ pub record Filled (bs words : List ℕ) (i : ℕ) : Type 0 where
 pub fill-start : (bs : List ℕ) → Filled bs (replicate wordCount 0) 0
 fill-start bs = record { long = refl; entries = λ k l. absurd (omega arith); needed = λ k l. absurd (omega arith); low = λ h k e. clash e (ap (λ (x : ℕ). bit x k) (zeros wordCount (markWord h)) ∙ bit-zero k); in-problem = omega arith }
 
-pub fill-next : {bs words after offsets witnesses : List ℕ} {i : ℕ} {es : List ℕ} {l : Constraint} {w literals : ℕ} → Filled bs words i → Turn bs offsets witnesses i → Unpacked bs i es l → EntryBits es w → NeedsOf (constraintOf bs i) literals → Marked literals i (set words i w) after → Filled bs after (i + 1)
+pub fill-next : {bs words after offsets witnesses : List ℕ} {i : ℕ} {es : List ℕ} {l : Constraint} {w literals : ℕ} → Filled bs words i → AtOffset bs offsets witnesses i → Unpacked bs i es l → EntryBits es w → NeedsOf (constraintOf bs i) literals → Marked literals i (set words i w) after → Filled bs after (i + 1)
 fill-next {bs} {words} {after} {i = i} {w = w} {literals} f t u b n m = record {
   long = m .long ∙ length-set words i w ∙ f .long;
   entries = λ k l. entry k l (ℕ-discrete k i);

@@ -41,7 +41,7 @@ use Rattle.rules.proofs.Listed.{covered}
 use Rattle.quiet.specs.Quiet.{Idle, Quiet, WordsOf, splitMark, markWord}
 use Rattle.quiet.proofs.Sayings.{holds, says, chosen-said}
 use Rattle.constraints.proofs.Decoding.{in-range}
-use Rattle.search.specs.Turns.{Turn, Narrows}
+use Rattle.search.specs.Offsets.{AtOffset, Narrows}
 
 -- ---- constraints that are idle
 
@@ -73,9 +73,9 @@ module _ (n : ℕ) (b : Branch) (few : n ≤ mostTerms) (A : SetVar) (low : A .i
   -- rule 20, where each root of the set is an entry
   module _ (all-entries : bitAnd row (2 ^ 64 - 1 - word) ≡ 0) where
     chosen-nowhere : (h : ℕ) → h < n → rootAt b h ≡ h → applies (known b) (choose [] b A es (term h)) ≡ false
-    chosen-nowhere h l r = chosen-said b h h r A low es ∙ go (rows.known b (A .index) h) refl
+    chosen-nowhere h l r = chosen-said b h h r A low es ∙ go (rows.literalKnown b (A .index) h) refl
       where
-        go : (x : Bool) → rows.known b (A .index) h ≡ x → ((rows.known b (A .index) h && true) && not (any (all (says b h)) (map (λ (e : Term). holds e ∷ []) es))) ≡ false
+        go : (x : Bool) → rows.literalKnown b (A .index) h ≡ x → ((rows.literalKnown b (A .index) h && true) && not (any (all (says b h)) (map (λ (e : Term). holds e ∷ []) es))) ≡ false
         go false e = rw e refl
         go true e =
             let k : bit row h ≡ true = of .says (A .index) h (omega arith) (omega (arith, few)) ∙ rw (eq-eqb (rootAt b h) h r, e) refl in
@@ -89,9 +89,9 @@ module _ (n : ℕ) (b : Branch) (few : n ≤ mostTerms) (A : SetVar) (low : A .i
   module _ (inside : Each (λ (e : Term). e .index < mostTerms) es) (all-roots : bitAnd word (2 ^ 64 - 1 - row) ≡ 0) where
     entry-known : (e : Term) → e .index < mostTerms → bit word (e .index) ≡ true → applies (known b) (propagation 19 [] (In e A)) ≡ false
     entry-known e l q =
-        let s : (eqb (rootAt b (e .index)) (e .index) && rows.known b (A .index) (e .index)) ≡ true = sym (of .says (A .index) (e .index) (omega arith) l) ∙ covered word row small row-small all-roots (e .index) q in
-        let r : rootAt b (e .index) ≡ e .index = eqb-true (rootAt b (e .index)) (e .index) (and-l (eqb (rootAt b (e .index)) (e .index)) (rows.known b (A .index) (e .index)) s) in
-        let k : known b (In e A) ≡ true = known-in b (e .index) (e .index) r A low ∙ and-r (eqb (rootAt b (e .index)) (e .index)) (rows.known b (A .index) (e .index)) s in
+        let s : (eqb (rootAt b (e .index)) (e .index) && rows.literalKnown b (A .index) (e .index)) ≡ true = sym (of .says (A .index) (e .index) (omega arith) l) ∙ covered word row small row-small all-roots (e .index) q in
+        let r : rootAt b (e .index) ≡ e .index = eqb-true (rootAt b (e .index)) (e .index) (and-l (eqb (rootAt b (e .index)) (e .index)) (rows.literalKnown b (A .index) (e .index)) s) in
+        let k : known b (In e A) ≡ true = known-in b (e .index) (e .index) r A low ∙ and-r (eqb (rootAt b (e .index)) (e .index)) (rows.literalKnown b (A .index) (e .index)) s in
         rw k refl
 
     entered : (ts : List Term) → Each (λ (e : Term). e .index < mostTerms) ts → ((h : ℕ) → any (λ (e : Term). eqb (e .index) h) ts ≡ true → bit word h ≡ true) → (p : ℕ) → p < length ts → applies (known b) (propagation 19 [] (In (getD ts p (term 0)) A)) ≡ false
@@ -105,7 +105,7 @@ module _ (n : ℕ) (b : Branch) (few : n ≤ mostTerms) (A : SetVar) (low : A .i
 -- ---- constraint i as it is decoded
 
 -- what one test shows to be at rest is idle
-pub rest-idle : {bs offsets witnesses words : List ℕ} {ps lines : List ℕ} {i : ℕ} (split : Bool) (l : Coded) → Turn bs offsets witnesses i → WordsOf (constraintsOf (read bs)) words → constraintOf bs i ≡ decoded (entriesOf (constraintOf bs i)) l → restsBy ps lines (getD words i 0) split l ≡ true
+pub rest-idle : {bs offsets witnesses words : List ℕ} {ps lines : List ℕ} {i : ℕ} (split : Bool) (l : Coded) → AtOffset bs offsets witnesses i → WordsOf (constraintsOf (read bs)) words → constraintOf bs i ≡ decoded (entriesOf (constraintOf bs i)) l → restsBy ps lines (getD words i 0) split l ≡ true
     → (n : ℕ) (b : Branch) → n ≤ mostTerms → Shown b ps lines → Idle split n b (getD (constraintsOf (read bs)) i noConstraint)
 unfolding constraintOf unsharedOf
 rest-idle {bs} {offsets} {words = words} {ps} {lines} {i} split l t w is rest n b few s =

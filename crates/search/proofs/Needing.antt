@@ -36,7 +36,7 @@ use Rattle.constraints.proofs.Decoding.{kind-here, in-range}
 use Rattle.rules.specs.declared.Row.{Row}
 use Rattle.rules.specs.declared.Split.{Split}
 use Rattle.rules.specs.Spans.{Spanned}
-use Rattle.rules.specs.Rows.{HasRow, numbered, numberOf, head, last, laid, parted}
+use Rattle.rules.specs.Rows.{HasRow, numbered, literalNumber, head, last, laid, parted}
 use Rattle.rules.proofs.TableTests.{row-of}
 use Rattle.rules.specs.Words.{LowRow, LowSplit}
 use Rattle.rules.proofs.RowBits.{laid-low, parted-low}
@@ -73,7 +73,7 @@ few-premises : (j : ℕ) → ltb (length (numbered j .premises)) 3 ≡ true
 few-premises = each-row (λ r. ltb (length (r .premises)) 3) refl refl
 
 abbrev apart : Rule Literal → Bool
-apart r = not (eqb (numberOf (operandOf 0 1 2) (head (r .premises))) (numberOf (operandOf 0 1 2) (last (r .premises))))
+apart r = not (eqb (literalNumber (operandOf 0 1 2) (head (r .premises))) (literalNumber (operandOf 0 1 2) (last (r .premises))))
 
 two-apart : (j : ℕ) → ltb 1 (length (numbered j .premises)) ≡ true → apart (numbered j) ≡ true
 two-apart j = imp-at (ltb 1 (length (numbered j .premises))) (apart (numbered j)) (each-row (λ r. imp (ltb 1 (length (r .premises))) (apart r)) refl refl j)
@@ -98,15 +98,15 @@ module _ (k : Relation) (A B C j w : ℕ) where
   firsts = numbered j .premises
 
   -- the premises are the first and the last
-  by-row : rowOf k j ≡ numbered j → bit w (numberOf s (head firsts)) ≡ true → bit w (numberOf s (last firsts)) ≡ true → (ltb 1 (length firsts) ≡ true → bit w pairMark ≡ true) → RuleNeeds this j w
+  by-row : rowOf k j ≡ numbered j → bit w (literalNumber s (head firsts)) ≡ true → bit w (literalNumber s (last firsts)) ≡ true → (ltb 1 (length firsts) ≡ true → bit w pairMark ≡ true) → RuleNeeds this j w
   by-row r x y z = record {
-    needing = λ h e. go h (ends (λ (l : Literal). eqb (numberOf s l) h) firsts (ltb-true (length firsts) 3 (few-premises j)) (subst (λ (t : Rule Literal). any (λ (l : Literal). eqb (numberOf s l) h) (t .premises) ≡ true) r e));
+    needing = λ h e. go h (ends (λ (l : Literal). eqb (literalNumber s l) h) firsts (ltb-true (length firsts) 3 (few-premises j)) (subst (λ (t : Rule Literal). any (λ (l : Literal). eqb (literalNumber s l) h) (t .premises) ≡ true) r e));
     paired = λ e. z (subst (λ (t : Rule Literal). ltb 1 (length (t .premises)) ≡ true) r e);
   }
     where
-      go : (h : ℕ) → (eqb (numberOf s (head firsts)) h ≡ true) ⊎ (eqb (numberOf s (last firsts)) h ≡ true) → bit w h ≡ true
-      go h (inl q) = subst (λ (m : ℕ). bit w m ≡ true) (eqb-true (numberOf s (head firsts)) h q) x
-      go h (inr q) = subst (λ (m : ℕ). bit w m ≡ true) (eqb-true (numberOf s (last firsts)) h q) y
+      go : (h : ℕ) → (eqb (literalNumber s (head firsts)) h ≡ true) ⊎ (eqb (literalNumber s (last firsts)) h ≡ true) → bit w h ≡ true
+      go h (inl q) = subst (λ (m : ℕ). bit w m ≡ true) (eqb-true (literalNumber s (head firsts)) h q) x
+      go h (inr q) = subst (λ (m : ℕ). bit w m ≡ true) (eqb-true (literalNumber s (last firsts)) h q) y
 
 -- a word has what propagation rule j of sets needs, whatever relation has the rule
 abbrev pub Premised : (A B C j w : ℕ) → Type 0

@@ -3,7 +3,7 @@ use bits::bit_at;
 use branch::literals_of;
 use constraints::Constraint;
 use constraints::decode_at;
-use constraints::list_at;
+use constraints::entries_at;
 use problem::Totals;
 use rules::entry_bits;
 use rules::fitting;
@@ -35,7 +35,7 @@ ghost use Rattle.rules.specs.Rows.{HasRow};
 ghost use Rattle.rules.specs.Words.{Lent, Shown};
 ghost use Rattle.quiet.specs.Quiet.{Quiet, WordsOf, pairMark, markCount, markWord, wordCount, restMark};
 ghost use Rattle.search.specs.Marks.{RuleNeeds, NeedsOf, Marked};
-ghost use Rattle.search.specs.Turns.{Turns, Narrows};
+ghost use Rattle.search.specs.Offsets.{AtOffsets, Narrows};
 ghost use Rattle.search.specs.First.{Prepared, Finds};
 
 // Marks of a constraint beside the literals that it needs: a rule of it needs two facts of one class; it may rest; it has a split.
@@ -143,7 +143,7 @@ pub fn prepare<'a>(
         let n = i as usize;
         let at = offsets[n] as usize;
         let l = decode_at(problem, n, at, witnesses[n]);
-        let entries = list_at(problem, numbers, n, at, l);
+        let entries = entries_at(problem, numbers, n, at, l);
         words[n] = entry_bits(entries);
         let literals = needed(problem, n, at, l);
         mark(&mut words, literals, i);
@@ -176,7 +176,7 @@ fn looked_at<'a>(
     rows: &'a [u64],
     scope: Scope,
 ) -> u64
-    requires { ⌜ WordsOf (constraintsOf (read (now problem))) (now words) × Lent (now parents) (now rows) × Turns (now problem) (now offsets) (now witnesses) (scope .among) ⌝ }
+    requires { ⌜ WordsOf (constraintsOf (read (now problem))) (now words) × Lent (now parents) (now rows) × AtOffsets (now problem) (now offsets) (now witnesses) (scope .among) ⌝ }
     ensures { λ r. ⌜ Narrows (scope .split) (now (problem .entry)) (now (parents .entry)) (now (rows .entry)) (scope .among) r ⌝ }
 {
     let split = scope.split;
@@ -228,7 +228,7 @@ pub fn search<'a>(
         let end = span.end;
         if span.first < end {
             let l = decode_at(problem, n, at, witnesses[n]);
-            let entries = list_at(problem, numbers, n, at, l);
+            let entries = entries_at(problem, numbers, n, at, l);
             let bits = words[n];
             for j in span.first..end {
                 let fit = fitting(parents, rows, entries, bits, l, j);

@@ -19,10 +19,10 @@ use Rattle.branch.specs.Held.{held, Sound}
 use Rattle.branch.proofs.Restricting.{Among}
 use Rattle.constraints.proofs.Decoding.{stands-there}
 use Rattle.rules.specs.Words.{Lent, Shown}
-use Rattle.solver.specs.Outcomes.{constants, constraints}
+use Rattle.solver.specs.ComesTo.{constants, constraintsIn}
 
 module _ (bs : List ℕ) (tab : Table) (o : Opened bs tab) where
-  pub in-range : Each (ConstraintIn (tab .terms) (tab .sets)) (constraints bs tab)
+  pub in-range : Each (ConstraintIn (tab .terms) (tab .sets)) (constraintsIn bs tab)
   unfolding problemTable constraintsOf
   in-range = let r = opened bs tab o in rw (r .shows, r .reads) (constraints-in (r .prob) (read-valid bs (r .prob) (r .reads)))
 
@@ -36,11 +36,11 @@ module _ (bs : List ℕ) (tab : Table) (o : Opened bs tab) where
   pub terms-few : tab .terms ≤ mostTerms
   terms-few = opened-sizes bs tab o .2
 
-  pub place-there : (i : ℕ) → i < length (constraints bs tab) → i < tab .constraints
+  pub place-there : (i : ℕ) → i < length (constraintsIn bs tab) → i < tab .constraints
   place-there i l = omega (arith, constraint-count bs tab o)
 
   -- a constraint of the problem stands where the table says, and so does its witness
-  pub stands : (i : ℕ) → i < length (constraints bs tab) → (i < mostConstraints) × Stands bs i (getD (tab .offsets) i 0) × (term (getD (tab .witnesses) i 0) ≡ witnessOf bs i)
+  pub stands : (i : ℕ) → i < length (constraintsIn bs tab) → (i < mostConstraints) × Stands bs i (getD (tab .offsets) i 0) × (term (getD (tab .witnesses) i 0) ≡ witnessOf bs i)
   stands i l = stands-there bs tab i o (place-there i l)
 
 -- a branch of the run, as it is lent to a search

@@ -11,12 +11,12 @@ use Rattle.problem.specs.declared.Table.{Table}
 use Rattle.branch.specs.declared.Branch.{Branch}
 use Rattle.branch.specs.declared.Asserted.{Asserted}
 use Rattle.search.specs.declared.Found.{Found}
-use Rattle.output.specs.declared.Counts.{Counts}
+use Rattle.records.specs.declared.Counts.{Counts}
 use Rattle.slices.specs.Bytes.{putAt}
-use Rattle.output.specs.State.{State, state, counted, noted}
-use Rattle.output.proofs.Listing.{noted-there}
+use Rattle.records.specs.State.{State, state, countsOf, withStep}
+use Rattle.records.proofs.FormWriting.{noted-there}
 use Rattle.slices.proofs.Buffers.{put-length}
-use Rattle.solver.specs.Outcomes.{remaining, Outcome, Leads}
+use Rattle.solver.specs.ComesTo.{remaining, ComesTo, Leads}
 use Rattle.solver.proofs.Working.{spent-outcome, closed-outcome, step-leads}
 use Rattle.solver.proofs.Taking.{Taking, Made, stepped, child-less, closing, going}
 
@@ -47,14 +47,14 @@ module _ {bs : List ℕ} {tab : Table} {budget : ℕ} {b : Branch} {c : Counts} 
     reached-again w = record { leads = λ F t x. s .leads F t (w .leads F t x); less = omega (arith, s .less, w .less); going = w .going; same = w .same ∙ s .same }
 
     -- what the branch now comes to is what the first does
-    pub reaches : (F : List ℕ) (t : State) → Outcome bs tab budget at (state d F U) t → Outcome bs tab budget b (state c F T) t
+    pub reaches : (F : List ℕ) (t : State) → ComesTo bs tab budget at (state d F U) t → ComesTo bs tab budget b (state c F T) t
     unfolding Leads
     reaches F t q = s .leads F t q
 
 -- ---- one step
 
 module _ {bs : List ℕ} {tab : Table} {budget : ℕ} {b : Branch} {r : Found} {q : ℕ} {es : List ℕ} (s : Taking bs tab false b r q es) (c : Counts) (T : List ℕ) (g : Going budget c T) where
-  pub step-spent : c .steps ≡ budget → (F : List ℕ) → Outcome bs tab budget b (state c F T) (state (counted (c .steps) (c .forms) 1) F T)
+  pub step-spent : c .steps ≡ budget → (F : List ℕ) → ComesTo bs tab budget b (state c F T) (state (countsOf (c .steps) (c .forms) 1) F T)
   step-spent e F = spent-outcome bs tab (s .opened) budget b (s .sound .good) (state c F T) (g .on) _ _ (stepped s) e
 
   module _ {t : Asserted} (m : Made bs tab b r q es 0 t) (more : c .steps < budget) where
@@ -63,13 +63,13 @@ module _ {bs : List ℕ} {tab : Table} {budget : ℕ} {b : Branch} {r : Found} {
     line k = r .rule ∷ r .number ∷ r .root .0 ∷ k ∷ []
 
     -- the state after the step
-    after : (k : ℕ) (U F : List ℕ) → U ≡ putAt T (4 * c .steps) (line k) → state (counted (c .steps + 1) (c .forms) 0) F U ≡ noted budget (line k) (state c F T)
+    after : (k : ℕ) (U F : List ℕ) → U ≡ putAt T (4 * c .steps) (line k) → state (countsOf (c .steps + 1) (c .forms) 0) F U ≡ withStep budget (line k) (state c F T)
     after k U F e = rw (e, add-one (c .steps)) (sym (noted-there budget (line k) (state c F T) more))
 
-    pub step-closes : t .conflict ≡ true → (U : List ℕ) → U ≡ putAt T (4 * c .steps) (line 0) → (F : List ℕ) → Outcome bs tab budget b (state c F T) (state (counted (c .steps + 1) (c .forms) 0) F U)
-    step-closes x U e F = subst (Outcome bs tab budget b (state c F T)) (sym (after 0 U F e)) (closed-outcome bs tab (s .opened) budget b (s .sound .good) (state c F T) (g .on) (line 0) (closing s m x))
+    pub step-closes : t .conflict ≡ true → (U : List ℕ) → U ≡ putAt T (4 * c .steps) (line 0) → (F : List ℕ) → ComesTo bs tab budget b (state c F T) (state (countsOf (c .steps + 1) (c .forms) 0) F U)
+    step-closes x U e F = subst (ComesTo bs tab budget b (state c F T)) (sym (after 0 U F e)) (closed-outcome bs tab (s .opened) budget b (s .sound .good) (state c F T) (g .on) (line 0) (closing s m x))
 
-    pub step-goes : t .conflict ≡ false → (U : List ℕ) → U ≡ putAt T (4 * c .steps) (line 1) → Reached bs tab budget b c T (t .branch) (counted (c .steps + 1) (c .forms) 0) U
+    pub step-goes : t .conflict ≡ false → (U : List ℕ) → U ≡ putAt T (4 * c .steps) (line 1) → Reached bs tab budget b c T (t .branch) (countsOf (c .steps + 1) (c .forms) 0) U
     step-goes x U e = record {
       leads = λ F. subst (Leads bs tab budget b (state c F T) (t .branch)) (sym (after 1 U F e))
           (step-leads bs tab (s .opened) budget b (s .sound .good) (state c F T) (g .on) (line 1) (t .branch) (going s m x) (child-less s m x));

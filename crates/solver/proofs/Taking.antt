@@ -35,10 +35,10 @@ use Rattle.places.proofs.Offered.{rule-of}
 use Rattle.search.specs.declared.Found.{Found}
 use Rattle.search.specs.First.{candidateAt, found, firstPlace, spot, Located, Finds}
 use Rattle.step.specs.declared.Act.{Act}
-use Rattle.step.specs.Acts.{performed, Rooted, Under, Low, Placed, Somewhere, Acts}
+use Rattle.step.specs.Acts.{performed, Rooted, Under, OnLowTerms, Placed, Somewhere, Acts}
 use Rattle.step.proofs.Placing.{placed}
 use Rattle.step.proofs.Performing.{performed-rowed}
-use Rattle.solver.specs.Outcomes.{constants, constraints, shown, remaining, Settled}
+use Rattle.solver.specs.ComesTo.{constants, constraintsIn, shown, remaining, Settled}
 use Rattle.constraints.proofs.Decoding.{constraint-in}
 use Rattle.solver.proofs.Opening.{in-range, among, terms-few, place-there}
 use Rattle.solver.proofs.NextLaws.{found-next}
@@ -50,8 +50,8 @@ pub record Taking (bs : List ℕ) (tab : Table) (split : Bool) (b : Branch) (r :
   pub sound : Sound (constants bs tab) b
   pub settled : split ≡ true → Settled bs tab b
   pub some-rule : ¬ (r .rule ≡ 0)
-  pub first-is : firstPlace split (tab .terms) (constraints bs tab) (held b) ≡ found (constraints bs tab) (held b) (spot r q)
-  pub located : Located split (tab .terms) (constraints bs tab) (held b) r q
+  pub first-is : firstPlace split (tab .terms) (constraintsIn bs tab) (held b) ≡ found (constraintsIn bs tab) (held b) (spot r q)
+  pub located : Located split (tab .terms) (constraintsIn bs tab) (held b) r q
   pub unpacked : Unpacked bs (r .number) es (r .constraint)
 
 -- its child number k was asserted, with this answer
@@ -76,10 +76,10 @@ module _ {bs : List ℕ} {tab : Table} {split : Bool} {b : Branch} {r : Found} {
   kids = picked (childOf (constants bs tab) (held b) this (r .rule) q) (upFrom 0 (slotsOf this (r .rule)))
 
   abbrev chosen : Candidate
-  chosen = candidateAt (constraints bs tab) (held b) (spot r q)
+  chosen = candidateAt (constraintsIn bs tab) (held b) (spot r q)
 
   -- the place's constraint is the decoded one
-  pub here-is : getD (constraints bs tab) (r .number) noConstraint ≡ this
+  pub here-is : getD (constraintsIn bs tab) (r .number) noConstraint ≡ this
   unfolding constraintOf
   here-is = s .unpacked .is
 
@@ -99,26 +99,26 @@ module _ {bs : List ℕ} {tab : Table} {split : Bool} {b : Branch} {r : Found} {
   pub in-terms : ConstraintIn (tab .terms) mostSets this
   in-terms = subst (ConstraintIn (tab .terms) mostSets) (s .unpacked .is) (constraint-in bs tab (r .number) (s .opened) (place-there bs tab (s .opened) (r .number) (s .located .within .in-problem)) (tab .terms) 8 (omega arith) (opened-sizes bs tab (s .opened) .1))
 
-  pub low-act : (a : Act) → Low (r .constraint) es (r .root .0) a → Under (tab .terms) a
+  pub low-act : (a : Act) → OnLowTerms (r .constraint) es (r .root .0) a → Under (tab .terms) a
   low-act a l = l (tab .terms) in-terms (s .located .low)
 
   -- it is a place of a step
   pub is-placed : Placed (b .parents) es (r .constraint) (r .rule) q (r .root .0)
   is-placed = placed (held b) (r .rule) q es (r .constraint) (r .root .0) (s .unpacked .handled) ruled entry-listed low (subst (λ (x : Constraint). moveAt (held b) x (r .rule) q .0 ≡ term (r .root .0)) here-is (s .located .concerns))
 
-  found-is : firstPlace split (tab .terms) (constraints bs tab) (held b) ≡ some chosen
+  found-is : firstPlace split (tab .terms) (constraintsIn bs tab) (held b) ≡ some chosen
   found-is = s .first-is ∙ rw (ne-eqb (r .rule) 0 (s .some-rule)) refl
 
   -- the rule applies there
   pub applying : applies (calculus.known (held b)) (moveAt (held b) this (r .rule) q .1) ≡ true
   unfolding firstPlace
   applying = subst (λ (x : Constraint). applies (calculus.known (held b)) (moveAt (held b) x (r .rule) q .1) ≡ true) here-is
-      (first-some (λ (_ : Candidate). Unit {0}) (λ (c : Candidate). applies (calculus.known (held b)) (c .move)) (candidates (offers split (tab .terms) (held b)) 0 (constraints bs tab)) chosen (each-unit (candidates (offers split (tab .terms) (held b)) 0 (constraints bs tab))) found-is .1)
+      (first-some (λ (_ : Candidate). Unit {0}) (λ (c : Candidate). applies (calculus.known (held b)) (c .move)) (candidates (offers split (tab .terms) (held b)) 0 (constraintsIn bs tab)) chosen (each-unit (candidates (offers split (tab .terms) (held b)) 0 (constraintsIn bs tab))) found-is .1)
 
   -- it is what is done next
-  pub stepped : next (tab .terms) (constants bs tab) (constraints bs tab) (shown bs tab b) ≡ step (r .rule ∷ r .number ∷ r .root .0 ∷ length kids ∷ []) (map (restrict (tab .terms)) kids)
+  pub stepped : next (tab .terms) (constants bs tab) (constraintsIn bs tab) (shown bs tab b) ≡ step (r .rule ∷ r .number ∷ r .root .0 ∷ length kids ∷ []) (map (restrict (tab .terms)) kids)
   stepped =
-      let e = found-next (tab .terms) (tab .sets) (constants bs tab) (constraints bs tab) (in-range bs tab (s .opened)) (among bs tab (s .opened)) (held b) (s .sound .good .falls) split chosen (s .settled) found-is in
+      let e = found-next (tab .terms) (tab .sets) (constants bs tab) (constraintsIn bs tab) (in-range bs tab (s .opened)) (among bs tab (s .opened)) (held b) (s .sound .good .falls) split chosen (s .settled) found-is in
       let f = rw (s .located .concerns, here-is) at e in
       rw (sym (children-slots (constants bs tab) (held b) this (r .rule) q ruled)) (f ∙ rw (move-rule (held b) q this (r .rule) ruled) refl)
 
@@ -144,7 +144,7 @@ module _ {bs : List ℕ} {tab : Table} {split : Bool} {b : Branch} {r : Found} {
       child-less =
           some-each (λ d. WellFormed (tab .terms) (constants bs tab) d × (measure (tab .terms) (tab .sets) d < measure (tab .terms) (tab .sets) (shown bs tab b))) (shown bs tab (t .branch))
           (map (restrict (tab .terms)) kids)
-          (step-fit (tab .terms) (constants bs tab) (tab .sets) (constraints bs tab) (in-range bs tab (s .opened)) (shown bs tab b) (fit bs tab (s .opened) 0 b (s .sound .good)) (r .rule ∷ r .number ∷ r .root .0 ∷ length kids ∷ []) (map (restrict (tab .terms)) kids) stepped)
+          (step-fit (tab .terms) (constants bs tab) (tab .sets) (constraintsIn bs tab) (in-range bs tab (s .opened)) (shown bs tab b) (fit bs tab (s .opened) 0 b (s .sound .good)) (r .rule ∷ r .number ∷ r .root .0 ∷ length kids ∷ []) (map (restrict (tab .terms)) kids) stepped)
           (some-map (restrict (tab .terms)) (held (t .branch)) kids (picked-among (childOf (constants bs tab) (held b) this (r .rule) q) k (held (t .branch)) given 0 (slotsOf this (r .rule)) (omega arith) (omega (arith, m .there)))) .1
 
   -- an act on roots that asserts child k, performed, makes it
@@ -161,8 +161,8 @@ by-arm b e f g h = rw (g, h) (f ∙ ap (performed b) (sym e))
 
 -- ---- what a search answers
 
-module _ {bs : List ℕ} {tab : Table} {split : Bool} {b : Branch} {r : Found} (o : Opened bs tab) (sound : Sound (constants bs tab) b) (f : Finds split (tab .terms) (constraints bs tab) (held b) r) where
-  pub none-found : r .rule ≡ 0 → firstPlace split (tab .terms) (constraints bs tab) (held b) ≡ none
+module _ {bs : List ℕ} {tab : Table} {split : Bool} {b : Branch} {r : Found} (o : Opened bs tab) (sound : Sound (constants bs tab) b) (f : Finds split (tab .terms) (constraintsIn bs tab) (held b) r) where
+  pub none-found : r .rule ≡ 0 → firstPlace split (tab .terms) (constraintsIn bs tab) (held b) ≡ none
   none-found z = f .first-is ∙ rw (eq-eqb (r .rule) 0 z) refl
 
   pub taking : (split ≡ true → Settled bs tab b) → (n : ¬ (r .rule ≡ 0)) → Taking bs tab split b r (f .position) (f .there n .entries)
@@ -198,7 +198,7 @@ module _ {bs : List ℕ} {tab : Table} {b : Branch} {r : Found} {q : ℕ} {es : 
   single = propagation-slots (decoded (map term es) (r .constraint)) (r .rule) (subst (λ (x : Constraint). InSpan (propagationSpan x) (r .rule)) (here-is s) (s .located .within .of-rule))
 
   pub not-20 : ¬ (r .rule ≡ 20)
-  not-20 e = omega (arith, s .located .within .of-rule .1, span-end (getD (constraints bs tab) (r .number) noConstraint))
+  not-20 e = omega (arith, s .located .within .of-rule .1, span-end (getD (constraintsIn bs tab) (r .number) noConstraint))
 
   -- child 0 is there
   pub first-there : 0 < slotsOf (decoded (map term es) (r .constraint)) (r .rule)
@@ -208,10 +208,10 @@ module _ {bs : List ℕ} {tab : Table} {b : Branch} {r : Found} {q : ℕ} {es : 
   somewhere = (es, q, is-placed s, first-there)
 
   module _ {t : Asserted} (m : Made bs tab b r q es 0 t) where
-    pub closing : t .conflict ≡ true → next (tab .terms) (constants bs tab) (constraints bs tab) (shown bs tab b) ≡ step (r .rule ∷ r .number ∷ r .root .0 ∷ 0 ∷ []) []
+    pub closing : t .conflict ≡ true → next (tab .terms) (constants bs tab) (constraintsIn bs tab) (shown bs tab b) ≡ step (r .rule ∷ r .number ∷ r .root .0 ∷ 0 ∷ []) []
     closing e = stepped s ∙ rw (single, refused s m e, picked) refl
 
-    pub going : t .conflict ≡ false → next (tab .terms) (constants bs tab) (constraints bs tab) (shown bs tab b) ≡ step (r .rule ∷ r .number ∷ r .root .0 ∷ 1 ∷ []) (shown bs tab (t .branch) ∷ [])
+    pub going : t .conflict ≡ false → next (tab .terms) (constants bs tab) (constraintsIn bs tab) (shown bs tab b) ≡ step (r .rule ∷ r .number ∷ r .root .0 ∷ 1 ∷ []) (shown bs tab (t .branch) ∷ [])
     going e = stepped s ∙ rw (single, given s m e, picked) refl
 
   -- what it asserts is known by its act

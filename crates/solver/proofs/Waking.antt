@@ -32,11 +32,11 @@ use Rattle.search.specs.First.{Prepared, Finds}
 use Rattle.step.specs.declared.Act.{Act}
 use Rattle.step.specs.declared.Act.the-variants.{Note, Merge, Close}
 use Rattle.step.specs.Acts.{performed, Rooted, Under}
-use Rattle.solver.specs.Outcomes.{constants, constraints, Wakes, Ready}
+use Rattle.solver.specs.ComesTo.{constants, constraintsIn, Wakes, Ready}
 
 -- ---- what is prepared is what is watched
 
-watched : {bs numbers : List ℕ} {t : Totals} {offsets witnesses words : List ℕ} → Prepared bs numbers t offsets witnesses words → Watched (t .terms) (constraints bs (tableBy t offsets witnesses)) words
+watched : {bs numbers : List ℕ} {t : Totals} {offsets witnesses words : List ℕ} → Prepared bs numbers t offsets witnesses words → Watched (t .terms) (constraintsIn bs (tableBy t offsets witnesses)) words
 unfolding constraintOf
 watched {bs} {t = t} {offsets} {witnesses} p =
     let o = p .tabled .opened in
@@ -102,7 +102,7 @@ all-ready {bs} {tab} {all = all} o s e = record { sound = s; propagation = λ i 
     bits : (i : ℕ) → bit all i ≡ ltb i (tab .constraints)
     bits i = ap (λ (n : ℕ). bit n i) e ∙ bit-ones (tab .constraints) i
 
-    there : (i : ℕ) → i < length (constraints bs tab) → bit all i ≡ true
+    there : (i : ℕ) → i < length (constraintsIn bs tab) → bit all i ≡ true
     there i l = bits i ∙ lt-ltb i (tab .constraints) (omega (arith, constraint-count bs tab o))
 
     low : (i : ℕ) → bit all i ≡ true → i < tab .constraints
@@ -114,26 +114,26 @@ module _ {bs numbers : List ℕ} {t : Totals} {offsets witnesses words : List �
   abbrev tab : Table
   tab = tableBy t offsets witnesses
 
-  counted : {i : ℕ} → i < length (constraints bs tab) → i < t .constraints
+  counted : {i : ℕ} → i < length (constraintsIn bs tab) → i < t .constraints
   counted l = omega (arith, constraint-count bs tab (p .tabled .opened))
 
   -- after a search for propagation rules, and after one for splits
-  pub narrowed : {r : Found} → Finds false (t .terms) (constraints bs tab) (held b) r → Ready bs tab b (r .left) ripe
+  pub narrowed : {r : Found} → Finds false (t .terms) (constraintsIn bs tab) (held b) r → Ready bs tab b (r .left) ripe
   narrowed f = record { sound = y .sound; propagation = f .quiet; splits = y .splits; wake-low = λ i e. counted (f .low i e); ripe-low = y .ripe-low }
 
   -- a search for propagation rules that finds none
-  pub quieted : {r : Found} → Finds false (t .terms) (constraints bs tab) (held b) r → r .rule ≡ 0 → Ready bs tab b 0 ripe
+  pub quieted : {r : Found} → Finds false (t .terms) (constraintsIn bs tab) (held b) r → r .rule ≡ 0 → Ready bs tab b 0 ripe
   quieted f z = subst (λ (k : ℕ). Ready bs tab b k ripe) (ap (λ (x : Found). x .left) (f .none z)) (narrowed f)
 
-  pub narrowed-splits : {r : Found} → Finds true (t .terms) (constraints bs tab) (held b) r → Ready bs tab b wake (r .left)
+  pub narrowed-splits : {r : Found} → Finds true (t .terms) (constraintsIn bs tab) (held b) r → Ready bs tab b wake (r .left)
   narrowed-splits f = record { sound = y .sound; propagation = y .propagation; splits = f .quiet; wake-low = y .wake-low; ripe-low = λ i e. counted (f .low i e) }
 
   -- after an act
   pub widened : {c : Asserted} (a : Act) (w : ℕ) → Rooted (b .parents) a → Under (t .terms) a → Wakes words a w → c ≡ performed b a → Sound (constants bs tab) (c .branch) → Ready bs tab (c .branch) (bitOr wake w) (bitOr ripe w)
   widened {c} a w r u k e s = record {
     sound = s;
-    propagation = subst (λ (x : Asserted). Quiet false (t .terms) (constraints bs tab) (held (x .branch)) (bitOr wake w)) (sym e) (act-quiet (watched p) false wake w (y .sound) a r u k (y .propagation));
-    splits = subst (λ (x : Asserted). Quiet true (t .terms) (constraints bs tab) (held (x .branch)) (bitOr ripe w)) (sym e) (act-quiet (watched p) true ripe w (y .sound) a r u k (y .splits));
+    propagation = subst (λ (x : Asserted). Quiet false (t .terms) (constraintsIn bs tab) (held (x .branch)) (bitOr wake w)) (sym e) (act-quiet (watched p) false wake w (y .sound) a r u k (y .propagation));
+    splits = subst (λ (x : Asserted). Quiet true (t .terms) (constraintsIn bs tab) (held (x .branch)) (bitOr ripe w)) (sym e) (act-quiet (watched p) true ripe w (y .sound) a r u k (y .splits));
     wake-low = λ i. both-low wake w i (y .wake-low i) (λ x. counted (woken-low (watched p) a w k i x));
     ripe-low = λ i. both-low ripe w i (y .ripe-low i) (λ x. counted (woken-low (watched p) a w k i x));
   }

@@ -36,16 +36,16 @@ use Rattle.step.specs.Acts.{performed}
 use Rattle.step.specs.Left.{Left, Free, Turns}
 use Rattle.step.proofs.Turning.{left-count, taken-open, left-closed}
 use Rattle.step.proofs.Choosing.{applies-free}
-use Rattle.output.specs.declared.Counts.{Counts}
+use Rattle.records.specs.declared.Counts.{Counts}
 use Rattle.slices.specs.Bytes.{putAt}
-use Rattle.output.specs.State.{State, state, counted, listed, noted, Fine}
+use Rattle.records.specs.State.{State, state, countsOf, withForm, withStep, Fine}
 use Rattle.slices.proofs.Buffers.{put-length}
-use Rattle.output.proofs.Listing.{noted-there}
-use Rattle.output.proofs.Playing.{play-kept}
-use Rattle.output.proofs.Tallied.{log-shaped}
+use Rattle.records.proofs.FormWriting.{noted-there}
+use Rattle.records.proofs.Playing.{play-kept}
+use Rattle.records.proofs.Tallied.{log-shaped}
 use Rattle.solver.specs.declared.Run.{Run}
-use Rattle.solver.specs.declared.Split.{Split}
-use Rattle.solver.specs.Outcomes.{constants, constraints, placed, shown, remaining, events, Outcome, childrenFrom, ChildrenOutcome, SplitOutcome, Settled, Ready, Splits, Begun}
+use Rattle.solver.specs.declared.FoundSplit.{FoundSplit}
+use Rattle.solver.specs.ComesTo.{constants, constraintsIn, placed, shown, remaining, events, ComesTo, childrenFrom, ChildrenComeTo, SplitComesTo, Settled, Ready, Splits, Begun}
 use Rattle.solver.proofs.Settling.{Reached, reaches}
 use Rattle.solver.proofs.Opening.{in-range, among}
 use Rattle.solver.proofs.NextLaws.{none-next}
@@ -53,11 +53,11 @@ use Rattle.solver.proofs.Working.{solved-outcome, spent-outcome, split-
 use Rattle.solver.proofs.Taking.{Taking, Made, here-is, ruled, applying, stepped, given, child-less, acted}
 
 -- a listed form leaves the trace as it is
-listed-trace : (n : ℕ) (r : List ℕ) (c d : Counts) (F G : List ℕ) → state d G [] ≡ listed n r (state c F []) → (T : List ℕ) → state d G T ≡ listed n r (state c F T)
-unfolding listed
+listed-trace : (n : ℕ) (r : List ℕ) (c d : Counts) (F G : List ℕ) → state d G [] ≡ withForm n r (state c F []) → (T : List ℕ) → state d G T ≡ withForm n r (state c F T)
+unfolding withForm
 listed-trace n r c d F G e T = go (leb (recordLength n * c .forms + recordLength n) (length F)) refl
   where
-    go : (t : Bool) → leb (recordLength n * c .forms + recordLength n) (length F) ≡ t → state d G T ≡ listed n r (state c F T)
+    go : (t : Bool) → leb (recordLength n * c .forms + recordLength n) (length F) ≡ t → state d G T ≡ withForm n r (state c F T)
     go true q = let x = rw q at e in rw q (ap (λ (s : State). state (s .counts) (s .forms) T) x)
     go false q = let x = rw q at e in rw q (ap (λ (s : State). state (s .counts) (s .forms) T) x)
 
@@ -65,11 +65,11 @@ pub same-room : (n f g m : ℕ) → f ≡ g → recordLength n * g ≤ m → rec
 same-room n f g m e l = rw e l
 
 -- counts and buffers stay within their bounds
-outcome-fine : (bs : List ℕ) (tab : Table) (budget : ℕ) (b : Branch) (s t : State) → Fine (tab .terms) budget s → Outcome bs tab budget b s t → Fine (tab .terms) budget t
-unfolding Outcome
+outcome-fine : (bs : List ℕ) (tab : Table) (budget : ℕ) (b : Branch) (s t : State) → Fine (tab .terms) budget s → ComesTo bs tab budget b s t → Fine (tab .terms) budget t
+unfolding ComesTo
 outcome-fine bs tab budget b s t f q =
     subst (Fine (tab .terms) budget) (sym (q (remaining bs tab b) (omega arith)))
-    (play-kept (tab .terms) budget s f (events bs tab (remaining bs tab b) (shown bs tab b)) (log-shaped (tab .terms) (constants bs tab) (constraints bs tab) (remaining bs tab b) (shown bs tab b)) .fine)
+    (play-kept (tab .terms) budget s f (events bs tab (remaining bs tab b) (shown bs tab b)) (log-shaped (tab .terms) (constants bs tab) (constraintsIn bs tab) (remaining bs tab b) (shown bs tab b)) .fine)
 
 -- ---- a split is at a root
 
@@ -137,24 +137,24 @@ module _ {bs : List ℕ} {tab : Table} {b : Branch} {r : Found} {es : List ℕ} 
     }
 
 -- and back
-pub split-taking : {bs : List ℕ} {tab : Table} {b : Branch} {s : Split} → Opened bs tab → Splits bs tab b s → {es : List ℕ} → Unpacked bs (s .found .number) es (s .found .constraint) → Taking bs tab true b (s .found) (s .found .root .0) es
+pub split-taking : {bs : List ℕ} {tab : Table} {b : Branch} {s : FoundSplit} → Opened bs tab → Splits bs tab b s → {es : List ℕ} → Unpacked bs (s .found .number) es (s .found .constraint) → Taking bs tab true b (s .found) (s .found .root .0) es
 split-taking o w u = record { opened = o; sound = w .ready .sound; settled = λ _. w .settled; some-rule = w .some-rule; first-is = w .first-is; located = w .located; unpacked = u }
 
-pub split-decodes : {bs : List ℕ} {tab : Table} {b : Branch} {s : Split} → Splits bs tab b s → constraintOf bs (s .found .number) ≡ decoded (entriesOf (constraintOf bs (s .found .number))) (s .found .constraint)
+pub split-decodes : {bs : List ℕ} {tab : Table} {b : Branch} {s : FoundSplit} → Splits bs tab b s → constraintOf bs (s .found .number) ≡ decoded (entriesOf (constraintOf bs (s .found .number))) (s .found .constraint)
 unfolding constraintOf
 split-decodes {s = s} w = rw (w .located .opened) (own-entries (w .located .handled))
 
 -- ---- a branch that propagation has settled
 
 module _ {bs : List ℕ} {tab : Table} {budget : ℕ} {b : Branch} {c : Counts} {T : List ℕ} {at : Branch} {d : Counts} {U : List ℕ} (o : Opened bs tab) (w : Reached bs tab budget b c T at d U) (F : List ℕ) where
-  pub works-form : Sound (constants bs tab) at → Settled bs tab at → firstPlace true (tab .terms) (constraints bs tab) (held at) ≡ none → (e : Counts) (G : List ℕ) → state e G [] ≡ listed (tab .terms) (recordOf (tab .terms) (held at)) (state d F []) → Outcome bs tab budget b (state c F T) (state e G U)
+  pub works-form : Sound (constants bs tab) at → Settled bs tab at → firstPlace true (tab .terms) (constraintsIn bs tab) (held at) ≡ none → (e : Counts) (G : List ℕ) → state e G [] ≡ withForm (tab .terms) (recordOf (tab .terms) (held at)) (state d F []) → ComesTo bs tab budget b (state c F T) (state e G U)
   works-form sound p q e G x =
-      let n = none-next (tab .terms) (tab .sets) (constants bs tab) (constraints bs tab) (in-range bs tab o) (among bs tab o) (held at) (sound .good .falls) p q in
-      reaches w F (state e G U) (subst (Outcome bs tab budget at (state d F U)) (sym (listed-trace (tab .terms) (recordOf (tab .terms) (held at)) d e F G x U))
+      let n = none-next (tab .terms) (tab .sets) (constants bs tab) (constraintsIn bs tab) (in-range bs tab o) (among bs tab o) (held at) (sound .good .falls) p q in
+      reaches w F (state e G U) (subst (ComesTo bs tab budget at (state d F U)) (sym (listed-trace (tab .terms) (recordOf (tab .terms) (held at)) d e F G x U))
       (solved-outcome bs tab o budget at (sound .good) (state d F U) (w .going .on) n))
 
   module _ {f : Found} {q : ℕ} {es : List ℕ} (s : Taking bs tab true at f q es) where
-    pub works-spent : d .steps ≡ budget → Outcome bs tab budget b (state c F T) (state (counted (d .steps) (d .forms) 1) F U)
+    pub works-spent : d .steps ≡ budget → ComesTo bs tab budget b (state c F T) (state (countsOf (d .steps) (d .forms) 1) F U)
     works-spent e = reaches w F _ (spent-outcome bs tab o budget at (s .sound .good) (state d F U) (w .going .on) _ _ (stepped s) e)
 
   module _ {f : Found} {es : List ℕ} (s : Taking bs tab true at f (f .root .0) es) (more : ¬ (d .steps ≡ budget)) (n : ℕ) (ns : n ≡ length (picked (childOf (constants bs tab) (held at) (decoded (map term es) (f .constraint)) (f .rule) (f .root .0)) (upFrom 0 (slotsOf (decoded (map term es) (f .constraint)) (f .rule))))) (W : List ℕ) (e : W ≡ putAt U (4 * d .steps) (f .rule ∷ f .number ∷ f .root .0 ∷ n ∷ [])) where
@@ -163,20 +163,20 @@ module _ {bs : List ℕ} {tab : Table} {budget : ℕ} {b : Branch} {c : Counts} 
     line = f .rule ∷ f .number ∷ f .root .0 ∷ n ∷ []
 
     abbrev noted-counts : Counts
-    noted-counts = counted (d .steps + 1) (d .forms) 0
+    noted-counts = countsOf (d .steps + 1) (d .forms) 0
 
     -- the state after it is noted
-    after : state noted-counts F W ≡ noted budget line (state d F U)
+    after : state noted-counts F W ≡ withStep budget line (state d F U)
     after = rw (e, add-one (d .steps)) (sym (noted-there budget line (state d F U) (omega (arith, w .going .within))))
 
-    next-is : next (tab .terms) (constants bs tab) (constraints bs tab) (shown bs tab at) ≡ step line (childrenFrom bs tab at (placed bs tab f) (f .rule) (f .root .0) 0)
+    next-is : next (tab .terms) (constants bs tab) (constraintsIn bs tab) (shown bs tab at) ≡ step line (childrenFrom bs tab at (placed bs tab f) (f .rule) (f .root .0) 0)
     next-is =
         let l : Constraint = decoded (map term es) (f .constraint) in
         let y : slotsOf l (f .rule) ≡ slotsOf l (f .rule) - 0 = omega arith in
         stepped s ∙ rw (ns, here-is s) (ap (λ (k : ℕ). step (f .rule ∷ f .number ∷ f .root .0 ∷ length (picked (childOf (constants bs tab) (held at) l (f .rule) (f .root .0)) (upFrom 0 (slotsOf l (f .rule)))) ∷ []) (map (restrict (tab .terms)) (picked (childOf (constants bs tab) (held at) l (f .rule) (f .root .0)) (upFrom 0 k)))) y)
 
-    pub works-split : (t : State) → SplitOutcome bs tab budget at f (state noted-counts F W) t → Outcome bs tab budget b (state c F T) t
-    works-split t x = reaches w F t (split-outcome bs tab o budget at (s .sound .good) (state d F U) (w .going .on) (placed bs tab f) (f .rule) (f .root .0) line next-is t (subst (λ (y : State). SplitOutcome bs tab budget at f y t) after x))
+    pub works-split : (t : State) → SplitComesTo bs tab budget at f (state noted-counts F W) t → ComesTo bs tab budget b (state c F T) t
+    works-split t x = reaches w F t (split-outcome bs tab o budget at (s .sound .good) (state d F U) (w .going .on) (placed bs tab f) (f .rule) (f .root .0) line next-is t (subst (λ (y : State). SplitComesTo bs tab budget at f y t) after x))
 
     pub split-begun : Fine (tab .terms) budget (state c F T) → Begun (tab .terms) budget (state noted-counts F W)
     split-begun g = record {
@@ -194,20 +194,20 @@ module _ {bs : List ℕ} {tab : Table} {budget : ℕ} {b : Branch} {c : Counts} 
 
 -- what the loop keeps at child k of rule j of constraint i at root p, from counts c and buffers F, T to where it is now
 pub record Worked (bs : List ℕ) (tab : Table) (budget : ℕ) (b : Branch) (i j p : ℕ) (l : Coded) (es : List ℕ) (c : Counts) (F T : List ℕ) (k word : ℕ) (d : Counts) (G U : List ℕ) : Type 0 where
-  pub leads : (t : State) → ChildrenOutcome bs tab budget b (decoded (map term es) l) j p k (state d G U) t → ChildrenOutcome bs tab budget b (getD (constraints bs tab) i noConstraint) j p 0 (state c F T) t
+  pub leads : (t : State) → ChildrenComeTo bs tab budget b (decoded (map term es) l) j p k (state d G U) t → ChildrenComeTo bs tab budget b (getD (constraintsIn bs tab) i noConstraint) j p 0 (state c F T) t
   pub begun : Begun (tab .terms) budget (state d G U)
   pub left : Left (constants bs tab) (held b) (decoded (map term es) l) es j p k word
 
 module _ {bs : List ℕ} {tab : Table} {b : Branch} {r : Found} {es : List ℕ} {budget : ℕ} {c : Counts} {F T : List ℕ} (s : Taking bs tab true b r (r .root .0) es) where
   pub worked-begin : {word : ℕ} → Left (constants bs tab) (held b) (decoded (map term es) (r .constraint)) es (r .rule) (r .root .0) 0 word → Begun (tab .terms) budget (state c F T) → Worked bs tab budget b (r .number) (r .rule) (r .root .0) (r .constraint) es c F T 0 word c F T
   worked-begin L g = record {
-    leads = λ t q. subst (λ (x : Constraint). ChildrenOutcome bs tab budget b x (r .rule) (r .root .0) 0 (state c F T) t) (sym (here-is s)) q;
+    leads = λ t q. subst (λ (x : Constraint). ChildrenComeTo bs tab budget b x (r .rule) (r .root .0) 0 (state c F T) t) (sym (here-is s)) q;
     begun = g;
     left = L;
   }
 
   module _ {k word : ℕ} {d : Counts} {G U : List ℕ} (v : Worked bs tab budget b (r .number) (r .rule) (r .root .0) (r .constraint) es c F T k word d G U) where
-    pub worked-done : slotsOf (decoded (map term es) (r .constraint)) (r .rule) ≤ k → SplitOutcome bs tab budget b r (state c F T) (state d G U)
+    pub worked-done : slotsOf (decoded (map term es) (r .constraint)) (r .rule) ≤ k → SplitComesTo bs tab budget b r (state c F T) (state d G U)
     worked-done h = v .leads (state d G U) (children-done bs tab budget b (decoded (map term es) (r .constraint)) (r .rule) (r .root .0) k (state d G U) h)
 
     module _ (lt : k < slotsOf (decoded (map term es) (r .constraint)) (r .rule)) {t : Turn} (u : Turns (b .parents) es (decoded (map term es) (r .constraint)) (r .rule) (r .root .0) k word t) where
@@ -232,7 +232,7 @@ module _ {bs : List ℕ} {tab : Table} {b : Branch} {r : Found} {es : List ℕ} 
         pub opens : a .conflict ≡ false
         opens = ap (λ (x : Asserted). x .conflict) p ∙ taken-open u (constants bs tab) b refl (s .sound .good) (s .sound .rowed .fixed) (v .left) e
 
-        module _ (x : Counts) (H W : List ℕ) (out : Outcome bs tab budget (a .branch) (state d G U) (state x H W)) where
+        module _ (x : Counts) (H W : List ℕ) (out : ComesTo bs tab budget (a .branch) (state d G U) (state x H W)) where
           pub worked-next : x .stop ≡ 0 → Worked bs tab budget b (r .number) (r .rule) (r .root .0) (r .constraint) es c F T (k + 1) (t .left) x H W
           worked-next z = record {
             leads = λ y w. v .leads y (children-next bs tab budget b (decoded (map term es) (r .constraint)) (r .rule) (r .root .0) k (state d G U) (a .branch) lt (given s made opens) (child-less s made opens) (state x H W) out y (rw (add-one k) at w));
@@ -244,5 +244,5 @@ module _ {bs : List ℕ} {tab : Table} {b : Branch} {r : Found} {es : List ℕ} 
             left = after-turn;
           }
 
-          pub worked-stop : ¬ (x .stop ≡ 0) → SplitOutcome bs tab budget b r (state c F T) (state x H W)
+          pub worked-stop : ¬ (x .stop ≡ 0) → SplitComesTo bs tab budget b r (state c F T) (state x H W)
           worked-stop n = v .leads (state x H W) (children-stop bs tab budget b (decoded (map term es) (r .constraint)) (r .rule) (r .root .0) k (state d G U) (a .branch) lt (given s made opens) (child-less s made opens) (state x H W) out n)

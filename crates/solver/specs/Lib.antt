@@ -1,1 +1,1 @@
-pub mod Outcomes
+pub mod ComesTo

@@ -1,13 +1,13 @@
 // The run: a branch is worked until it splits, and each child is worked as a branch.
-use bits::lowest;
+use bits::low_bits;
 use branch::Asserted;
 use branch::Branch;
-use constraints::list_at;
-use output::Counts;
-use output::list_form;
-use output::note;
+use constraints::entries_at;
 use problem::Table;
 use problem::Totals;
+use records::Counts;
+use records::list_form;
+use records::write_step;
 use search::Found;
 use search::PAIR_WORD;
 use search::Scope;
@@ -18,8 +18,8 @@ use slices::numbers;
 use step::Act;
 use step::act_of;
 use step::child_at;
+use step::child_count;
 use step::kept;
-use step::number;
 use step::perform;
 use step::slots;
 ghost use mathlib.Core.Path.{_≡_};
@@ -29,8 +29,8 @@ ghost use Rattle.calculus.specs.Limits.{mostSteps};
 ghost use Rattle.problem.specs.Table.{Opened, tableBy};
 ghost use Rattle.quiet.specs.Quiet.{wordCount};
 ghost use Rattle.search.specs.First.{Prepared};
-ghost use Rattle.output.specs.State.{state};
-ghost use Rattle.solver.specs.Outcomes.{Wakes, Outcome, SplitOutcome, Begun, Ready, Splits, Runs};
+ghost use Rattle.records.specs.State.{state};
+ghost use Rattle.solver.specs.ComesTo.{Wakes, ComesTo, SplitComesTo, Begun, Ready, Splits, Runs};
 
 // What a run has besides its lists: the problem's totals, how many steps it may take, what it has counted, and the constraints, as bits, of which a propagation rule may apply, and those of which a split may.
 pub struct Run {
@@ -42,7 +42,7 @@ pub struct Run {
 }
 
 // A split that a search found, with the children that are left, as bits, and the run as it is before them.
-pub struct Split {
+pub struct FoundSplit {
     pub found: Found,
     pub left: u64,
     pub run: Run,
@@ -73,7 +73,7 @@ fn work<'a>(
     trace: &mut [u8],
 ) -> Counts
     requires { ⌜ Prepared (now problem) (now numbers) (run .totals) (now offsets) (now witnesses) (now words) × Ready (now problem) (tableBy (run .totals) (now offsets) (now witnesses)) (next .branch) (run .wake) (run .ripe) × Begun (run .totals .terms) (run .budget) (state (run .counts) (now forms) (now trace)) ⌝ }
-    ensures { λ r. ⌜ Outcome (now (problem .entry)) (tableBy (run .totals) (now (offsets .entry)) (now (witnesses .entry))) (run .budget) (next .branch) (state (run .counts) (now (forms .entry)) (now (trace .entry))) (state r (now (forms .exit)) (now (trace .exit))) ⌝ }
+    ensures { λ r. ⌜ ComesTo (now (problem .entry)) (tableBy (run .totals) (now (offsets .entry)) (now (witnesses .entry))) (run .budget) (next .branch) (state (run .counts) (now (forms .entry)) (now (trace .entry))) (state r (now (forms .exit)) (now (trace .exit))) ⌝ }
 {
     let totals = run.totals;
     let budget = run.budget;
@@ -134,10 +134,10 @@ fn work<'a>(
             stop: 0,
         };
         if conflict {
-            note(trace, steps, rule, found.number, root.0, 0);
+            write_step(trace, steps, rule, found.number, root.0, 0);
             return counts;
         }
-        note(trace, steps, rule, found.number, root.0, 1);
+        write_step(trace, steps, rule, found.number, root.0, 1);
         let more = wakes(words, act);
         wake = found.left | more;
         ripe = ripe | more;
@@ -172,7 +172,7 @@ fn work<'a>(
     let n = found.number as usize;
     let l = found.constraint;
     let root = found.root.0;
-    let entries = list_at(problem, numbers, n, offsets[n] as usize, l);
+    let entries = entries_at(problem, numbers, n, offsets[n] as usize, l);
     let left = kept(
         &at.parents,
         &at.insides,
@@ -184,7 +184,7 @@ fn work<'a>(
         rule,
         root,
     );
-    note(trace, taken, rule, found.number, root, number(left));
+    write_step(trace, taken, rule, found.number, root, child_count(left));
     let after = Run {
         totals: totals,
         budget: budget,
@@ -196,7 +196,7 @@ fn work<'a>(
         wake: 0,
         ripe: found.left,
     };
-    let split = Split {
+    let split = FoundSplit {
         found: found,
         left: left,
         run: after,
@@ -222,12 +222,12 @@ fn children<'a>(
     witnesses: &'a [u8],
     words: &'a [u64],
     b: Branch,
-    split: Split,
+    split: FoundSplit,
     forms: &mut [u8],
     trace: &mut [u8],
 ) -> Counts
     requires { ⌜ Prepared (now problem) (now numbers) (split .run .totals) (now offsets) (now witnesses) (now words) × Splits (now problem) (tableBy (split .run .totals) (now offsets) (now witnesses)) b split × Begun (split .run .totals .terms) (split .run .budget) (state (split .run .counts) (now forms) (now trace)) ⌝ }
-    ensures { λ r. ⌜ SplitOutcome (now (problem .entry)) (tableBy (split .run .totals) (now (offsets .entry)) (now (witnesses .entry))) (split .run .budget) b (split .found) (state (split .run .counts) (now (forms .entry)) (now (trace .entry))) (state r (now (forms .exit)) (now (trace .exit))) ⌝ }
+    ensures { λ r. ⌜ SplitComesTo (now (problem .entry)) (tableBy (split .run .totals) (now (offsets .entry)) (now (witnesses .entry))) (split .run .budget) b (split .found) (state (split .run .counts) (now (forms .entry)) (now (trace .entry))) (state r (now (forms .exit)) (now (trace .exit))) ⌝ }
 {
     let found = split.found;
     let run = split.run;
@@ -236,7 +236,7 @@ fn children<'a>(
     let l = found.constraint;
     let h = found.root;
     let n = found.number as usize;
-    let entries = list_at(problem, numbers, n, offsets[n] as usize, l);
+    let entries = entries_at(problem, numbers, n, offsets[n] as usize, l);
     let count = slots(entries, l, rule);
     let mut left = split.left;
     let mut counts = run.counts;
@@ -297,7 +297,7 @@ pub fn solve(
         terms: tab.terms,
     };
     let words = prepare(problem, &numbers, totals, &offsets, &witnesses);
-    let all = lowest(tab.constraints);
+    let all = low_bits(tab.constraints);
     let run = Run {
         totals: totals,
         budget: budget,

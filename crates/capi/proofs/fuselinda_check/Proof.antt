@@ -14,7 +14,7 @@ use Rattle.capi.proofs.fuselinda_check.Reads as reads
 use Rattle.capi.proofs.fuselinda_check.Lts as lts
 use Rattle.capi.proofs.declined.Reads as declined-reads
 use Rattle.checker.proofs.lowest.Reads as lowest-reads
-use Rattle.handed.proofs.lay_out.Reads as lay-out-reads
+use Rattle.assignment.proofs.lay_out.Reads as lay-out-reads
 use Rattle.problem.proofs.read.Reads as read-reads
 
 -- the call's arguments, counted from where the problem was read, and that both slices are bytes

@@ -10,7 +10,7 @@ use Rattle.calculus.specs.Reading.{words}
 use Rattle.calculus.specs.Check.{has}
 use Rattle.calculus.proofs.Sequences.{each-at}
 use Rattle.slices.proofs.Parts.{part-more, part-done}
-use Rattle.checker.specs.Tested.{numberOf, Readable}
+use Rattle.checker.specs.Tested.{valueAt, Readable}
 use Rattle.slices.proofs.TwoBytes.{words-more, words-done}
 use Rattle.checker.proofs.Turns.{fails, passes, all-passed}
 use Rattle.checker.proofs.Testing.{stops, goes-on}
@@ -18,13 +18,13 @@ use Rattle.checker.proofs.exactly.Statement.{statement}
 use Rattle.checker.proofs.exactly.Tie as tie
 
 abbrev Inv-loop : tie.InvT-loop
-Inv-loop problem tab assignment list members n i₀ i = (i ≤ length members / 2) × (all (has (map (numberOf problem tab assignment) list)) (words members) ≡ all (has (map (numberOf problem tab assignment) list)) (words (drop (2 * i) members)))
+Inv-loop problem tab assignment list members n i₀ i = (i ≤ length members / 2) × (all (has (map (valueAt problem tab assignment) list)) (words members) ≡ all (has (map (valueAt problem tab assignment) list)) (words (drop (2 * i) members)))
 
 abbrev μ-loop : tie.MeasureT-loop
 μ-loop problem tab assignment list members n i₀ i = length members / 2 - i
 
 abbrev Inv-loop2 : tie.InvT-loop2
-Inv-loop2 problem tab assignment list members n e₀ e-end e = (e ≤ length list) × (all (λ y. has (words members) (numberOf problem tab assignment y)) list ≡ all (λ y. has (words members) (numberOf problem tab assignment y)) (drop e list))
+Inv-loop2 problem tab assignment list members n e₀ e-end e = (e ≤ length list) × (all (λ y. has (words members) (valueAt problem tab assignment y)) list ≡ all (λ y. has (words members) (valueAt problem tab assignment y)) (drop e list))
 
 abbrev μ-loop2 : tie.MeasureT-loop2
 μ-loop2 problem tab assignment list members n e₀ e-end e = length list - e
@@ -38,14 +38,14 @@ mul-word c = omega arith
 word-requires : tie.Need-word-requires Inv-loop μ-loop Inv-loop2 μ-loop2
 word-requires c κs = omega arith
 
-listed-requires : tie.Need-listed-requires Inv-loop μ-loop Inv-loop2 μ-loop2
-listed-requires c κs = c .before .before .before .before .before .before .before .pre
+is-entry-requires : tie.Need-is-entry-requires Inv-loop μ-loop Inv-loop2 μ-loop2
+is-entry-requires c κs = c .before .before .before .before .before .before .before .pre
 
 returns : tie.Need-returns Inv-loop μ-loop Inv-loop2 μ-loop2
 returns c =
     let w = c .before .before in
     let v = w .before .before .loop in
-    stops _ _ (sym (v .inv .1 ∙ fails _ _ _ _ (words-more _ (v .i) (omega arith)) (c .before .listed .result) (rw (w .word .ensures .0) at (c .before .listed .ensures)) (c .if1 .taken)))
+    stops _ _ (sym (v .inv .1 ∙ fails _ _ _ _ (words-more _ (v .i) (omega arith)) (c .before .is-entry .result) (rw (w .word .ensures .0) at (c .before .is-entry .ensures)) (c .if1 .taken)))
 
 add-i : tie.Need-add-i Inv-loop μ-loop Inv-loop2 μ-loop2
 add-i c = omega arith
@@ -57,7 +57,7 @@ loop-again : tie.Need-loop-again Inv-loop μ-loop Inv-loop2 μ-loop2
 loop-again c =
     let w = c .before .before in
     let v = w .before .before .loop in
-    (omega arith, v .inv .1 ∙ passes _ _ _ _ (words-more _ (v .i) (omega arith)) (c .before .listed .result) (rw (w .word .ensures .0) at (c .before .listed .ensures)) (c .if1 .left))
+    (omega arith, v .inv .1 ∙ passes _ _ _ _ (words-more _ (v .i) (omega arith)) (c .before .is-entry .result) (rw (w .word .ensures .0) at (c .before .is-entry .ensures)) (c .if1 .left))
 
 loop2-holds : tie.Need-loop2-holds Inv-loop μ-loop Inv-loop2 μ-loop2
 loop2-holds c = (omega arith, refl)
@@ -109,7 +109,7 @@ exactly-spec =
     loop-holds
     mul-word
     word-requires
-    listed-requires
+    is-entry-requires
     returns
     add-i
     loop-less

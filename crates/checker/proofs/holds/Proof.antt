@@ -15,14 +15,14 @@ use Rattle.checker.proofs.has.Reads as has-reads
 use Rattle.checker.proofs.relates.Reads as relates-reads
 use Rattle.checker.proofs.value.Reads as value-reads
 use Rattle.constraints.proofs.decode.Reads as decode-reads
-use Rattle.constraints.proofs.list.Reads as list-reads
-use Rattle.handed.proofs.members.Reads as members-reads
+use Rattle.constraints.proofs.entries_of.Reads as list-reads
+use Rattle.assignment.proofs.members.Reads as members-reads
 
 decode-requires : tie.Need-decode-requires
 decode-requires c κs = search needs
 
-list-requires : tie.Need-list-requires
-list-requires c κs = search needs
+entries-of-requires : tie.Need-entries-of-requires
+entries-of-requires c κs = search needs
 
 enum-known-l : tie.Need-enum-known-l
 enum-known-l c = search needs
@@ -30,12 +30,12 @@ enum-known-l c = search needs
 value-requires : tie.Need-value-requires
 value-requires c κs =
     let q = c .before .before .before .before .before .before .before .before .pre in
-    readable _ _ (q .0) _ _ (q .3) _ (named _ _ (q .0) _ _ (q .3) _ (q .2) _ _ (c .before .before .before .list .ensures) _ (c .before .l .given .1) .0)
+    readable _ _ (q .0) _ _ (q .3) _ (named _ _ (q .0) _ _ (q .3) _ (q .2) _ _ (c .before .before .before .entries-of .ensures) _ (c .before .l .given .1) .0)
 
 members-requires : tie.Need-members-requires
 members-requires c κs =
     let q = c .before .before .before .before .before .before .before .before .before .pre in
-    members-in _ _ (q .0) _ _ (q .3) _ (named _ _ (q .0) _ _ (q .3) _ (q .2) _ _ (c .before .before .before .before .list .ensures) _ (c .before .before .l .given .1) .1)
+    members-in _ _ (q .0) _ _ (q .3) _ (named _ _ (q .0) _ _ (q .3) _ (q .2) _ _ (c .before .before .before .before .entries-of .ensures) _ (c .before .before .l .given .1) .1)
 
 has-requires : tie.Need-has-requires
 has-requires c κs = search needs
@@ -46,12 +46,12 @@ enum-known-l-2 c = search needs
 value-requires-2 : tie.Need-value-requires-2
 value-requires-2 c κs =
     let q = c .before .before .before .before .before .before .before .before .pre in
-    readable _ _ (q .0) _ _ (q .3) _ (named _ _ (q .0) _ _ (q .3) _ (q .2) _ _ (c .before .before .before .list .ensures) _ (c .before .l2 .given .1) .0)
+    readable _ _ (q .0) _ _ (q .3) _ (named _ _ (q .0) _ _ (q .3) _ (q .2) _ _ (c .before .before .before .entries-of .ensures) _ (c .before .l2 .given .1) .0)
 
 members-requires-2 : tie.Need-members-requires-2
 members-requires-2 c κs =
     let q = c .before .before .before .before .before .before .before .before .before .pre in
-    members-in _ _ (q .0) _ _ (q .3) _ (named _ _ (q .0) _ _ (q .3) _ (q .2) _ _ (c .before .before .before .before .list .ensures) _ (c .before .before .l2 .given .1) .1)
+    members-in _ _ (q .0) _ _ (q .3) _ (named _ _ (q .0) _ _ (q .3) _ (q .2) _ _ (c .before .before .before .before .entries-of .ensures) _ (c .before .before .l2 .given .1) .1)
 
 has-requires-2 : tie.Need-has-requires-2
 has-requires-2 c κs = search needs
@@ -62,12 +62,12 @@ enum-known-l-3 c = search needs
 value-requires-3 : tie.Need-value-requires-3
 value-requires-3 c κs =
     let q = c .before .before .before .before .before .before .before .before .pre in
-    readable _ _ (q .0) _ _ (q .3) _ (named _ _ (q .0) _ _ (q .3) _ (q .2) _ _ (c .before .before .before .list .ensures) _ (c .before .l3 .given .1) .0)
+    readable _ _ (q .0) _ _ (q .3) _ (named _ _ (q .0) _ _ (q .3) _ (q .2) _ _ (c .before .before .before .entries-of .ensures) _ (c .before .l3 .given .1) .0)
 
 value-requires-4 : tie.Need-value-requires-4
 value-requires-4 c κs =
     let q = c .before .before .before .before .before .before .before .before .before .pre in
-    readable _ _ (q .0) _ _ (q .3) _ (named _ _ (q .0) _ _ (q .3) _ (q .2) _ _ (c .before .before .before .before .list .ensures) _ (c .before .before .l3 .given .1) .1)
+    readable _ _ (q .0) _ _ (q .3) _ (named _ _ (q .0) _ _ (q .3) _ (q .2) _ _ (c .before .before .before .before .entries-of .ensures) _ (c .before .before .l3 .given .1) .1)
 
 enum-known-l-4 : tie.Need-enum-known-l-4
 enum-known-l-4 c = search needs
@@ -75,12 +75,12 @@ enum-known-l-4 c = search needs
 value-requires-5 : tie.Need-value-requires-5
 value-requires-5 c κs =
     let q = c .before .before .before .before .before .before .before .before .pre in
-    readable _ _ (q .0) _ _ (q .3) _ (named _ _ (q .0) _ _ (q .3) _ (q .2) _ _ (c .before .before .before .list .ensures) _ (c .before .l4 .given .1) .0)
+    readable _ _ (q .0) _ _ (q .3) _ (named _ _ (q .0) _ _ (q .3) _ (q .2) _ _ (c .before .before .before .entries-of .ensures) _ (c .before .l4 .given .1) .0)
 
 value-requires-6 : tie.Need-value-requires-6
 value-requires-6 c κs =
     let q = c .before .before .before .before .before .before .before .before .before .pre in
-    readable _ _ (q .0) _ _ (q .3) _ (named _ _ (q .0) _ _ (q .3) _ (q .2) _ _ (c .before .before .before .before .list .ensures) _ (c .before .before .l4 .given .1) .1)
+    readable _ _ (q .0) _ _ (q .3) _ (named _ _ (q .0) _ _ (q .3) _ (q .2) _ _ (c .before .before .before .before .entries-of .ensures) _ (c .before .before .l4 .given .1) .1)
 
 enum-known-l-5 : tie.Need-enum-known-l-5
 enum-known-l-5 c = search needs
@@ -88,17 +88,17 @@ enum-known-l-5 c = search needs
 members-requires-3 : tie.Need-members-requires-3
 members-requires-3 c κs =
     let q = c .before .before .before .before .before .before .before .before .pre in
-    members-in _ _ (q .0) _ _ (q .3) _ (named _ _ (q .0) _ _ (q .3) _ (q .2) _ _ (c .before .before .before .list .ensures) _ (c .before .l5 .given .1) .0)
+    members-in _ _ (q .0) _ _ (q .3) _ (named _ _ (q .0) _ _ (q .3) _ (q .2) _ _ (c .before .before .before .entries-of .ensures) _ (c .before .l5 .given .1) .0)
 
 members-requires-4 : tie.Need-members-requires-4
 members-requires-4 c κs =
     let q = c .before .before .before .before .before .before .before .before .before .pre in
-    members-in _ _ (q .0) _ _ (q .3) _ (named _ _ (q .0) _ _ (q .3) _ (q .2) _ _ (c .before .before .before .before .list .ensures) _ (c .before .before .l5 .given .1) .1)
+    members-in _ _ (q .0) _ _ (q .3) _ (named _ _ (q .0) _ _ (q .3) _ (q .2) _ _ (c .before .before .before .before .entries-of .ensures) _ (c .before .before .l5 .given .1) .1)
 
 members-requires-5 : tie.Need-members-requires-5
 members-requires-5 c κs =
     let q = c .before .before .before .before .before .before .before .before .before .before .pre in
-    members-in _ _ (q .0) _ _ (q .3) _ (named _ _ (q .0) _ _ (q .3) _ (q .2) _ _ (c .before .before .before .before .before .list .ensures) _ (c .before .before .before .l5 .given .1) .2)
+    members-in _ _ (q .0) _ _ (q .3) _ (named _ _ (q .0) _ _ (q .3) _ (q .2) _ _ (c .before .before .before .before .before .entries-of .ensures) _ (c .before .before .before .l5 .given .1) .2)
 
 relates-requires : tie.Need-relates-requires
 relates-requires c κs = search needs
@@ -109,17 +109,17 @@ enum-known-l-6 c = search needs
 members-requires-6 : tie.Need-members-requires-6
 members-requires-6 c κs =
     let q = c .before .before .before .before .before .before .before .before .pre in
-    members-in _ _ (q .0) _ _ (q .3) _ (named _ _ (q .0) _ _ (q .3) _ (q .2) _ _ (c .before .before .before .list .ensures) _ (c .before .l6 .given .1) .0)
+    members-in _ _ (q .0) _ _ (q .3) _ (named _ _ (q .0) _ _ (q .3) _ (q .2) _ _ (c .before .before .before .entries-of .ensures) _ (c .before .l6 .given .1) .0)
 
 members-requires-7 : tie.Need-members-requires-7
 members-requires-7 c κs =
     let q = c .before .before .before .before .before .before .before .before .before .pre in
-    members-in _ _ (q .0) _ _ (q .3) _ (named _ _ (q .0) _ _ (q .3) _ (q .2) _ _ (c .before .before .before .before .list .ensures) _ (c .before .before .l6 .given .1) .1)
+    members-in _ _ (q .0) _ _ (q .3) _ (named _ _ (q .0) _ _ (q .3) _ (q .2) _ _ (c .before .before .before .before .entries-of .ensures) _ (c .before .before .l6 .given .1) .1)
 
 members-requires-8 : tie.Need-members-requires-8
 members-requires-8 c κs =
     let q = c .before .before .before .before .before .before .before .before .before .before .pre in
-    let r = named _ _ (q .0) _ _ (q .3) _ (q .2) _ _ (c .before .before .before .before .before .list .ensures) _ (c .before .before .before .l6 .given .1) in
+    let r = named _ _ (q .0) _ _ (q .3) _ (q .2) _ _ (c .before .before .before .before .before .entries-of .ensures) _ (c .before .before .before .l6 .given .1) in
     members-in _ _ (q .0) _ _ (q .3) _ (same-set (r .2) (r .0))
 
 relates-requires-2 : tie.Need-relates-requires-2
@@ -131,12 +131,12 @@ enum-known-l-7 c = search needs
 members-requires-9 : tie.Need-members-requires-9
 members-requires-9 c κs =
     let q = c .before .before .before .before .before .before .before .before .pre in
-    members-in _ _ (q .0) _ _ (q .3) _ (named _ _ (q .0) _ _ (q .3) _ (q .2) _ _ (c .before .before .before .list .ensures) _ (c .before .l7 .given .1) .0)
+    members-in _ _ (q .0) _ _ (q .3) _ (named _ _ (q .0) _ _ (q .3) _ (q .2) _ _ (c .before .before .before .entries-of .ensures) _ (c .before .l7 .given .1) .0)
 
 exactly-requires : tie.Need-exactly-requires
 exactly-requires c κs =
     let q = c .before .before .before .before .before .before .before .before .before .pre in
-    entries-readable _ _ (q .0) _ _ (q .3) _ (q .2) _ _ (c .before .before .before .before .list .ensures) (named _ _ (q .0) _ _ (q .3) _ (q .2) _ _ (c .before .before .before .before .list .ensures) _ (c .before .before .l7 .given .1) .1)
+    entries-readable _ _ (q .0) _ _ (q .3) _ (q .2) _ _ (c .before .before .before .before .entries-of .ensures) (named _ _ (q .0) _ _ (q .3) _ (q .2) _ _ (c .before .before .before .before .entries-of .ensures) _ (c .before .before .l7 .given .1) .1)
 
 enum-known-l-8 : tie.Need-enum-known-l-8
 enum-known-l-8 c = search needs
@@ -144,12 +144,12 @@ enum-known-l-8 c = search needs
 members-requires-10 : tie.Need-members-requires-10
 members-requires-10 c κs =
     let q = c .before .before .before .before .before .before .before .before .pre in
-    members-in _ _ (q .0) _ _ (q .3) _ (named _ _ (q .0) _ _ (q .3) _ (q .2) _ _ (c .before .before .before .list .ensures) _ (c .before .l8 .given .1) .0)
+    members-in _ _ (q .0) _ _ (q .3) _ (named _ _ (q .0) _ _ (q .3) _ (q .2) _ _ (c .before .before .before .entries-of .ensures) _ (c .before .l8 .given .1) .0)
 
 exactly-requires-2 : tie.Need-exactly-requires-2
 exactly-requires-2 c κs =
     let q = c .before .before .before .before .before .before .before .before .before .pre in
-    interval-entries _ _ (q .0) _ _ (q .3) _ (q .2) _ _ (c .before .before .before .before .list .ensures) _ _ _ (c .before .before .l8 .given .1)
+    interval-entries _ _ (q .0) _ _ (q .3) _ (q .2) _ _ (c .before .before .before .before .entries-of .ensures) _ _ _ (c .before .before .l8 .given .1)
 
 returns : tie.Need-returns
 returns c =
@@ -157,7 +157,7 @@ returns c =
     let q = s .pre in
     let a = s .args in
     let k = c .before .before .before .before .l .given in
-    known-test _ _ (q .0) _ _ (q .3) _ (q .2) _ _ (c .before .before .before .before .before .before .list .ensures) _ (k .1) _ _
+    known-test _ _ (q .0) _ _ (q .3) _ (q .2) _ _ (c .before .before .before .before .before .before .entries-of .ensures) _ (k .1) _ _
     (member-test (a .problem .now) (a .tab) (a .assignment .now) (a .at) _ _ (c .before .before .value .result) (k .0 .0 .0) (k .0 .1 .0 .0) (c .before .members .ensures) (c .before .before .value .ensures .0) (c .has .ensures))
 
 returns-2 : tie.Need-returns-2
@@ -166,7 +166,7 @@ returns-2 c =
     let q = s .pre in
     let a = s .args in
     let k = c .before .before .before .before .l2 .given in
-    known-test _ _ (q .0) _ _ (q .3) _ (q .2) _ _ (c .before .before .before .before .before .before .list .ensures) _ (k .1) _ _
+    known-test _ _ (q .0) _ _ (q .3) _ (q .2) _ _ (c .before .before .before .before .before .before .entries-of .ensures) _ (k .1) _ _
     (ap not (member-test (a .problem .now) (a .tab) (a .assignment .now) (a .at) _ _ (c .before .before .value2 .result) (k .0 .0 .0) (k .0 .1 .0 .0) (c .before .members2 .ensures) (c .before .before .value2 .ensures .0) (c .has2 .ensures)))
 
 returns-3 : tie.Need-returns-3
@@ -175,7 +175,7 @@ returns-3 c =
     let q = s .pre in
     let a = s .args in
     let k = c .before .before .before .l3 .given in
-    known-test _ _ (q .0) _ _ (q .3) _ (q .2) _ _ (c .before .before .before .before .before .list .ensures) _ (k .1) _ _
+    known-test _ _ (q .0) _ _ (q .3) _ (q .2) _ _ (c .before .before .before .before .before .entries-of .ensures) _ (k .1) _ _
     (same-test (a .problem .now) (a .tab) (a .assignment .now) (a .at) _ _ (k .0 .0 .0) (k .0 .1 .0 .0) (c .before .value3 .ensures) (c .value4 .ensures))
 
 returns-4 : tie.Need-returns-4
@@ -184,7 +184,7 @@ returns-4 c =
     let q = s .pre in
     let a = s .args in
     let k = c .before .before .before .l4 .given in
-    known-test _ _ (q .0) _ _ (q .3) _ (q .2) _ _ (c .before .before .before .before .before .list .ensures) _ (k .1) _ _
+    known-test _ _ (q .0) _ _ (q .3) _ (q .2) _ _ (c .before .before .before .before .before .entries-of .ensures) _ (k .1) _ _
     (ap not (same-test (a .problem .now) (a .tab) (a .assignment .now) (a .at) _ _ (k .0 .0 .0) (k .0 .1 .0 .0) (c .before .value5 .ensures) (c .value6 .ensures)))
 
 returns-5 : tie.Need-returns-5
@@ -193,7 +193,7 @@ returns-5 c =
     let q = s .pre in
     let a = s .args in
     let k = c .before .before .before .before .before .l5 .given in
-    known-test _ _ (q .0) _ _ (q .3) _ (q .2) _ _ (c .before .before .before .before .before .before .before .list .ensures) _ (k .1) _ _
+    known-test _ _ (q .0) _ _ (q .3) _ (q .2) _ _ (c .before .before .before .before .before .before .before .entries-of .ensures) _ (k .1) _ _
     (relates-test (a .problem .now) (a .tab) (a .assignment .now) (a .at) _ (relationOf (k .0 .0)) _ _ _ (k .0 .1 .0 .0) (k .0 .1 .1 .0 .0) (k .0 .1 .1 .1 .0 .0) (c .before .before .before .members3 .ensures) (c .before .before .members4 .ensures) (c .before .members5 .ensures) (c .relates .ensures))
 
 returns-6 : tie.Need-returns-6
@@ -202,7 +202,7 @@ returns-6 c =
     let q = s .pre in
     let a = s .args in
     let k = c .before .before .before .before .before .l6 .given in
-    known-test _ _ (q .0) _ _ (q .3) _ (q .2) _ _ (c .before .before .before .before .before .before .before .list .ensures) _ (k .1) _ _
+    known-test _ _ (q .0) _ _ (q .3) _ (q .2) _ _ (c .before .before .before .before .before .before .before .entries-of .ensures) _ (k .1) _ _
     (ap not (relates-test (a .problem .now) (a .tab) (a .assignment .now) (a .at) _ (denies (negationOf (k .0 .0))) _ _ _ (k .0 .1 .0 .0) (k .0 .1 .1 .0 .0) (k .0 .1 .1 .1 .0 .0) (c .before .before .before .members6 .ensures) (c .before .before .members7 .ensures) (c .before .members8 .ensures) (negated-relates (k .0 .0) _ (words (c .before .before .before .members6 .result .now)) (words (c .before .before .members7 .result .now)) (words (c .before .members8 .result .now)) (c .relates2 .ensures))))
 
 returns-7 : tie.Need-returns-7
@@ -211,8 +211,8 @@ returns-7 c =
     let q = s .pre in
     let a = s .args in
     let k = c .before .before .before .l7 .given in
-    known-test _ _ (q .0) _ _ (q .3) _ (q .2) _ _ (c .before .before .before .before .before .list .ensures) _ (k .1) _ _
-    (exactly-test (a .problem .now) (a .tab) (a .assignment .now) (a .at) _ _ (c .before .before .before .before .before .list .result .now) (k .0 .0 .0) (c .before .members9 .ensures) (c .exactly .ensures))
+    known-test _ _ (q .0) _ _ (q .3) _ (q .2) _ _ (c .before .before .before .before .before .entries-of .ensures) _ (k .1) _ _
+    (exactly-test (a .problem .now) (a .tab) (a .assignment .now) (a .at) _ _ (c .before .before .before .before .before .entries-of .result .now) (k .0 .0 .0) (c .before .members9 .ensures) (c .exactly .ensures))
 
 returns-8 : tie.Need-returns-8
 returns-8 c =
@@ -220,15 +220,15 @@ returns-8 c =
     let q = s .pre in
     let a = s .args in
     let k = c .before .before .before .l8 .given in
-    known-test _ _ (q .0) _ _ (q .3) _ (q .2) _ _ (c .before .before .before .before .before .list .ensures) _ (k .1) _ _
-    (exactly-test (a .problem .now) (a .tab) (a .assignment .now) (a .at) _ _ (c .before .before .before .before .before .list .result .now) (k .0 .0 .0) (c .before .members10 .ensures) (c .exactly2 .ensures))
+    known-test _ _ (q .0) _ _ (q .3) _ (q .2) _ _ (c .before .before .before .before .before .entries-of .ensures) _ (k .1) _ _
+    (exactly-test (a .problem .now) (a .tab) (a .assignment .now) (a .at) _ _ (c .before .before .before .before .before .entries-of .result .now) (k .0 .0 .0) (c .before .members10 .ensures) (c .exactly2 .ensures))
 
 pub holds-spec : {M : Type 1} → statement M
 holds-spec =
     tie.close
     (tie.spec
     decode-requires
-    list-requires
+    entries-of-requires
     enum-known-l
     value-requires
     members-requires

@@ -4,13 +4,13 @@ use mathlib.Core.Path.{_≡_}
 use Prim.Native.Nat.{ℕ, _-_, _≤_}
 use native.Mathlib.Omega.{arith}
 use lib.ListN.{length, take, length-replicate}
-use Rattle.page.specs.Writing.{Ran, lineAt}
-use Rattle.page.proofs.Running.{ran, within}
+use Rattle.listing_lines.specs.Writing.{ProgramRan, lineAt}
+use Rattle.listing_lines.proofs.Running.{ran, within}
 use Rattle.listing.proofs.main.Statement.{statement}
 use Rattle.listing.proofs.main.Tie as tie
 
 abbrev Inv-loop : tie.InvT-loop
-Inv-loop n forms problem word text₀ i₀ i-end text i = (i ≤ i-end) × (length text ≡ 32768) × Ran problem word forms
+Inv-loop n forms problem word text₀ i₀ i-end text i = (i ≤ i-end) × (length text ≡ 32768) × ProgramRan problem word forms
 
 abbrev μ-loop : tie.MeasureT-loop
 μ-loop n forms problem word text₀ i₀ i-end text i = i-end - i

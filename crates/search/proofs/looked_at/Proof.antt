@@ -8,7 +8,7 @@ use Rattle.calculus.specs.Limits.{mostSets, mostTerms}
 use Rattle.calculus.specs.Invariants.{ConstraintIn}
 use Rattle.bits.proofs.Count.{less-lt}
 use Rattle.constraints.proofs.Decoding.{in-range}
-use Rattle.search.specs.Turns.{Turn}
+use Rattle.search.specs.Offsets.{AtOffset}
 use Rattle.search.proofs.Narrowing.{Begins, Dropping, rest-idle, unlisted-in, begins-all, begins-splits, narrows-from, drop-start, lowest-in, drop-none, drop-one}
 use Rattle.search.proofs.looked_at.Statement.{statement}
 use Rattle.search.proofs.looked_at.Tie as tie
@@ -39,7 +39,7 @@ begins c = let s = start c in
     (λ w. begins-all _ _ {mask = s .args .scope .among} (omega arith) (w .1))
     (c .if1 .came)
 
-there : (c : tie.In-loop Inv-loop μ-loop) → Turn (start (begun c) .args .problem .now) (start (begun c) .args .offsets .now) (start (begun c) .args .witnesses .now) (trailingZeros 64 (c .before .loop .left))
+there : (c : tie.In-loop Inv-loop μ-loop) → AtOffset (start (begun c) .args .problem .now) (start (begun c) .args .offsets .now) (start (begun c) .args .witnesses .now) (trailingZeros 64 (c .before .loop .left))
 there c = let b = begun c in let n = trailingZeros 64 (c .before .loop .left) in start b .pre .2 n (begins b .within n (lowest-in (c .before .loop .inv) (c .loop-test .taken)))
 
 -- ---- the needs

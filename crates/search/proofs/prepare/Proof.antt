@@ -4,8 +4,8 @@ use native.Mathlib.Omega.{arith}
 use lib.ListN.{length-set}
 use borrow.Author.Needs.{needs}
 use Rattle.rules.proofs.FitLaws.{entries-below}
-use Rattle.search.specs.Turns.{Turn}
-use Rattle.search.proofs.Turns.{turn-of}
+use Rattle.search.specs.Offsets.{AtOffset}
+use Rattle.search.proofs.Offsets.{turn-of}
 use Rattle.search.proofs.Marking.{Filled, fill-start, fill-next, fill-end}
 use Rattle.search.proofs.prepare.Statement.{statement}
 use Rattle.search.proofs.prepare.Tie as tie
@@ -30,7 +30,7 @@ turn c = c .before .before .before .before .before
 abbrev marked : tie.After-mark Inv-loop μ-loop → tie.After-entry-bits Inv-loop μ-loop
 marked c = c .before .before .before
 
-there : (c : tie.In-loop Inv-loop μ-loop) → Turn (start (c .before) .args .problem .now) (start (c .before) .args .offsets .now) (start (c .before) .args .witnesses .now) (c .before .loop .i)
+there : (c : tie.In-loop Inv-loop μ-loop) → AtOffset (start (c .before) .args .problem .now) (start (c .before) .args .offsets .now) (start (c .before) .args .witnesses .now) (c .before .loop .i)
 there c = turn-of (start (c .before) .pre .0) (c .loop-test .taken)
 
 -- ---- the needs
@@ -56,11 +56,11 @@ shared-slice-read-decode-at c = let t = there (c .before .before) in omega arith
 decode-at-requires : tie.Need-decode-at-requires Inv-loop μ-loop
 decode-at-requires c κs = let t = there (c .before .before) in (t .stands, t .witness)
 
-list-at-requires : tie.Need-list-at-requires Inv-loop μ-loop
-list-at-requires c κs = let t = c .before .before .before in (there t .stands, start (t .before) .pre .1, c .decode-at .ensures)
+entries-at-requires : tie.Need-entries-at-requires Inv-loop μ-loop
+entries-at-requires c κs = let t = c .before .before .before in (there t .stands, start (t .before) .pre .1, c .decode-at .ensures)
 
 entry-bits-requires : tie.Need-entry-bits-requires Inv-loop μ-loop
-entry-bits-requires c κs = entries-below _ _ (c .list-at .ensures .handled)
+entry-bits-requires c κs = entries-below _ _ (c .entries-at .ensures .handled)
 
 mul-words : tie.Need-mul-words Inv-loop μ-loop
 mul-words c = let t = there (turn c) in omega arith
@@ -81,10 +81,10 @@ loop-less : tie.Need-loop-less Inv-loop μ-loop
 loop-less c = omega arith
 
 loop-again : tie.Need-loop-again Inv-loop μ-loop
-loop-again c = let b = marked c in fill-next (turn b .before .loop .inv) (there (turn b)) (b .before .list-at .ensures) (b .entry-bits .ensures) (c .before .before .needed .ensures) (c .mark .ensures)
+loop-again c = let b = marked c in fill-next (turn b .before .loop .inv) (there (turn b)) (b .before .entries-at .ensures) (b .entry-bits .ensures) (c .before .before .needed .ensures) (c .mark .ensures)
 
 returns : tie.Need-returns Inv-loop μ-loop
 returns c = fill-end (c .before .loop .inv) (start (c .before) .pre .0) (c .loop-test .left)
 
 pub prepare-spec : {M : Type 1} → statement M
-prepare-spec = tie.close (tie.spec Inv-loop μ-loop loop-holds cast-n mul-at shared-slice-read-at cast-at shared-slice-read-decode-at decode-at-requires list-at-requires entry-bits-requires mul-words array-write-words needed-requires mark-requires add-i loop-less loop-again returns)
+prepare-spec = tie.close (tie.spec Inv-loop μ-loop loop-holds cast-n mul-at shared-slice-read-at cast-at shared-slice-read-decode-at decode-at-requires entries-at-requires entry-bits-requires mul-words array-write-words needed-requires mark-requires add-i loop-less loop-again returns)

@@ -6,8 +6,8 @@ use lib.Count.{trailingZeros}
 use borrow.Author.Needs.{needs}
 use Rattle.bits.proofs.Count.{lowest-lt, less-lt}
 use Rattle.search.proofs.Narrowing.{quiet-within}
-use Rattle.search.specs.Turns.{Turn}
-use Rattle.search.proofs.Turns.{turn-of, few-terms}
+use Rattle.search.specs.Offsets.{AtOffset}
+use Rattle.search.proofs.Offsets.{turn-of, few-terms}
 use Rattle.search.proofs.Finding.{AtMask, AtRule, AtRoot, search-start, in-table, search-over, no-rules, rules-start, next-constraint, asked, no-roots, roots-start, next-rule, next-root, search-hit}
 use Rattle.search.proofs.search.Statement.{statement}
 use Rattle.search.proofs.search.Tie as tie
@@ -53,7 +53,7 @@ abbrev turn : tie.After-struct-known Inv-loop2 μ-loop2 Inv-loop μ-loop Inv-sea
 turn c = c .before .before .before .before
 
 -- where its rules are known, from where its entries are
-abbrev spanned : tie.After-list-at Inv-loop2 μ-loop2 Inv-loop μ-loop Inv-search μ-search → tie.After-struct-known Inv-loop2 μ-loop2 Inv-loop μ-loop Inv-search μ-search
+abbrev spanned : tie.After-entries-at Inv-loop2 μ-loop2 Inv-loop μ-loop Inv-search μ-search → tie.After-struct-known Inv-loop2 μ-loop2 Inv-loop μ-loop Inv-search μ-search
 spanned c = c .before .before .before .before
 
 -- its turn, from where a root fits
@@ -63,7 +63,7 @@ hit c = turn (spanned (c .before .before .before .before .before .before .before
 counted : (c : tie.In-search Inv-loop2 μ-loop2 Inv-loop μ-loop Inv-search μ-search) → trailingZeros 64 (c .before .search .left) < start c .args .totals .constraints
 counted c = in-table (start c .pre .0 .tabled) (c .before .search .inv) (c .search-test .taken)
 
-there : (c : tie.In-search Inv-loop2 μ-loop2 Inv-loop μ-loop Inv-search μ-search) → Turn (start c .args .problem .now) (start c .args .offsets .now) (start c .args .witnesses .now) (trailingZeros 64 (c .before .search .left))
+there : (c : tie.In-search Inv-loop2 μ-loop2 Inv-loop μ-loop Inv-search μ-search) → AtOffset (start c .args .problem .now) (start c .args .offsets .now) (start c .args .witnesses .now) (trailingZeros 64 (c .before .search .left))
 there c = turn-of (start c .pre .0 .tabled) (counted c)
 
 -- ---- the needs
@@ -98,8 +98,8 @@ shared-slice-read-decode-at c = let t = there (turn (c .before .before)) in omeg
 decode-at-requires : tie.Need-decode-at-requires Inv-loop2 μ-loop2 Inv-loop μ-loop Inv-search μ-search
 decode-at-requires c κs = let t = there (turn (c .before .before)) in (t .stands, t .witness)
 
-list-at-requires : tie.Need-list-at-requires Inv-loop2 μ-loop2 Inv-loop μ-loop Inv-search μ-search
-list-at-requires c κs = let t = turn (c .before .before .before) in (there t .stands, start t .pre .0 .numbers-are, c .decode-at .ensures)
+entries-at-requires : tie.Need-entries-at-requires Inv-loop2 μ-loop2 Inv-loop μ-loop Inv-search μ-search
+entries-at-requires c κs = let t = turn (c .before .before .before) in (there t .stands, start t .pre .0 .numbers-are, c .decode-at .ensures)
 
 mul-bits : tie.Need-mul-bits Inv-loop2 μ-loop2 Inv-loop μ-loop Inv-search μ-search
 mul-bits c = let t = there (turn (spanned c)) in omega arith
@@ -108,7 +108,7 @@ shared-slice-read-bits : tie.Need-shared-slice-read-bits Inv-loop2 μ-loop2 Inv-
 shared-slice-read-bits c = let t = turn (spanned (c .before)) in let d = there t in omega (arith, start t .pre .0 .words-are .long)
 
 loop-holds : tie.Need-loop-holds Inv-loop2 μ-loop2 Inv-loop μ-loop Inv-search μ-search
-loop-holds c = let w = spanned (c .before) in let t = turn w in rules-start (t .before .search .inv .nothing) (start t .pre .0) (start t .pre .1) (counted t) (w .before .span-of .ensures) (c .before .list-at .ensures)
+loop-holds c = let w = spanned (c .before) in let t = turn w in rules-start (t .before .search .inv .nothing) (start t .pre .0) (start t .pre .1) (counted t) (w .before .span-of .ensures) (c .before .entries-at .ensures)
 
 fitting-requires : tie.Need-fitting-requires Inv-loop2 μ-loop2 Inv-loop μ-loop Inv-search μ-search
 fitting-requires c κs = (start (turn (spanned (c .before .before .before))) .pre .1, asked (c .before .loop .inv) (c .loop-test .taken))
@@ -170,4 +170,4 @@ returns-2 : tie.Need-returns-2 Inv-loop2 μ-loop2 Inv-loop μ-loop Inv-search μ
 returns-2 c = let t = hit c in λ b z q. search-hit (t .before .search .inv) (t .search-test .taken) (c .before .before .loop2 .inv) (c .before .loop2-test .taken) (c .if3 .taken) b z (quiet-within _ (start t .args .totals .terms) b (few-terms (start t .pre .0 .tabled)) (narrowed t .looked-at .ensures) z q)
 
 pub search-spec : {M : Type 1} → statement M
-search-spec = tie.close (tie.spec Inv-loop2 μ-loop2 Inv-loop μ-loop Inv-search μ-search looked-at-requires search-holds cast-n mul-at shared-slice-read-at cast-at shared-slice-read-span-of span-of-requires shared-slice-read-decode-at decode-at-requires list-at-requires mul-bits shared-slice-read-bits loop-holds fitting-requires cast-low loop2-holds cast-if3 shr-if3 cast-number add-h loop2-less loop2-again add-j loop-less loop-again sub-left search-less search-again returns returns-2)
+search-spec = tie.close (tie.spec Inv-loop2 μ-loop2 Inv-loop μ-loop Inv-search μ-search looked-at-requires search-holds cast-n mul-at shared-slice-read-at cast-at shared-slice-read-span-of span-of-requires shared-slice-read-decode-at decode-at-requires entries-at-requires mul-bits shared-slice-read-bits loop-holds fitting-requires cast-low loop2-holds cast-if3 shr-if3 cast-number add-h loop2-less loop2-again add-j loop-less loop-again sub-left search-less search-again returns returns-2)

@@ -15,7 +15,7 @@ use Rattle.branch.specs.declared.Asserted.{Asserted}
 use Rattle.step.specs.declared.Act.{Act}
 use Rattle.step.specs.Acts.{performed, Rooted}
 use Rattle.constraints.proofs.Decoding.{two-operands}
-use Rattle.solver.specs.Outcomes.{remaining, Wakes, Ready}
+use Rattle.solver.specs.ComesTo.{remaining, Wakes, Ready}
 use Rattle.solver.proofs.Opening.{terms-few, stands, lent, shows}
 use Rattle.solver.proofs.Waking.{narrowed, narrowed-splits, quieted, widened}
 use Rattle.solver.proofs.Taking.{taking, none-found, is-placed, first-there, somewhere, not-20, inferred, by-arm, low-act, child-sound, child-less}
@@ -28,15 +28,15 @@ use Rattle.solver.proofs.work.Reads as work
 use Rattle.solver.proofs.work.Kinds as work-kinds
 use Rattle.solver.proofs.+children+work.Lts-work as work-lts
 use Rattle.branch.proofs.Branch.merge.Reads as merge-reads
-use Rattle.branch.proofs.Branch.note.Reads as note-fact-reads
-use Rattle.constraints.proofs.list_at.Reads as list-at-reads
-use Rattle.output.proofs.list_form.Reads as list-form-reads
-use Rattle.output.proofs.note.Reads as note-reads
+use Rattle.branch.proofs.Branch.note.Reads as note-reads
+use Rattle.constraints.proofs.entries_at.Reads as entries-at-reads
+use Rattle.records.proofs.list_form.Reads as list-form-reads
+use Rattle.records.proofs.write_step.Reads as write-step-reads
 use Rattle.search.proofs.search.Reads as search-reads
 use Rattle.step.proofs.act_of.Reads as act-of-reads
 use Rattle.step.proofs.child_at.Reads as child-at-reads
 use Rattle.step.proofs.kept.Reads as kept-reads
-use Rattle.step.proofs.number.Reads as number-reads
+use Rattle.step.proofs.child_count.Reads as child-count-reads
 use Rattle.step.proofs.perform.Reads as perform-reads
 use Rattle.step.proofs.slots.Reads as slots-reads
 use Rattle.solver.proofs.wakes.Reads as wakes-reads
@@ -79,18 +79,18 @@ work-μ-loop problem numbers offsets witnesses words forms trace₀ totals budge
 
 abbrev calls-children : ℕ → children-lts.Claims
 calls-children t =
-    (list-at-reads.Asked, list-at-reads.Learnt, slots-reads.Asked, slots-reads.Learnt, child-at-reads.Asked, child-at-reads.Learnt, perform-reads.Asked, perform-reads.Learnt, wakes-reads.Asked, wakes-reads.Learnt, work-below t, work.Post)
+    (entries-at-reads.Asked, entries-at-reads.Learnt, slots-reads.Asked, slots-reads.Learnt, child-at-reads.Asked, child-at-reads.Learnt, perform-reads.Asked, perform-reads.Learnt, wakes-reads.Asked, wakes-reads.Learnt, work-below t, work.Post)
 
 abbrev calls-work : ℕ → work-lts.Claims
 calls-work t =
-    (search-reads.Asked, search-reads.Learnt, act-of-reads.Asked, act-of-reads.Learnt, note-fact-reads.Asked, note-fact-reads.Learnt, merge-reads.Asked, merge-reads.Learnt, note-reads.Asked, note-reads.Learnt, wakes-reads.Asked, wakes-reads.Learnt, list-form-reads.Asked, list-form-reads.Learnt, list-at-reads.Asked, list-at-reads.Learnt, kept-reads.Asked, kept-reads.Learnt, number-reads.Asked, number-reads.Learnt, children-below t, children.Post)
+    (search-reads.Asked, search-reads.Learnt, act-of-reads.Asked, act-of-reads.Learnt, note-reads.Asked, note-reads.Learnt, merge-reads.Asked, merge-reads.Learnt, write-step-reads.Asked, write-step-reads.Learnt, wakes-reads.Asked, wakes-reads.Learnt, list-form-reads.Asked, list-form-reads.Learnt, entries-at-reads.Asked, entries-at-reads.Learnt, kept-reads.Asked, kept-reads.Learnt, child-count-reads.Asked, child-count-reads.Learnt, children-below t, children.Post)
 
 -- ---- the children's places: the start before the entries were listed; the listing, the slots and the loop's turn before a child
 
-abbrev start : (t : ℕ) → children-lts.After-list-at (calls-children t) (children-at t) children.Post children-Inv-loop children-μ-loop → children-lts.Start (calls-children t) (children-at t) children.Post children-Inv-loop children-μ-loop
+abbrev start : (t : ℕ) → children-lts.After-entries-at (calls-children t) (children-at t) children.Post children-Inv-loop children-μ-loop → children-lts.Start (calls-children t) (children-at t) children.Post children-Inv-loop children-μ-loop
 start t c = c .before .before .before .before .before .before .before .before .before .before .before .before .before .before
 
-abbrev listed : (t : ℕ) → children-lts.After-child-at (calls-children t) (children-at t) children.Post children-Inv-loop children-μ-loop → children-lts.After-list-at (calls-children t) (children-at t) children.Post children-Inv-loop children-μ-loop
+abbrev listed : (t : ℕ) → children-lts.After-child-at (calls-children t) (children-at t) children.Post children-Inv-loop children-μ-loop → children-lts.After-entries-at (calls-children t) (children-at t) children.Post children-Inv-loop children-μ-loop
 listed t c = c .before .before .before .before .before .before .before .before
 
 abbrev turn : (t : ℕ) → children-lts.After-child-at (calls-children t) (children-at t) children.Post children-Inv-loop children-μ-loop → children-lts.At-loop (calls-children t) (children-at t) children.Post children-Inv-loop children-μ-loop
@@ -99,32 +99,32 @@ turn t c = c .before .before .before .before .before
 children-cast-n : (t : ℕ) → children-lts.Need-cast-n (calls-children t) (children-at t) children.Post children-Inv-loop children-μ-loop
 children-cast-n t c = search needs
 
-children-mul-list-at : (t : ℕ) → children-lts.Need-mul-list-at (calls-children t) (children-at t) children.Post children-Inv-loop children-μ-loop
-children-mul-list-at t c = search needs
+children-mul-entries-at : (t : ℕ) → children-lts.Need-mul-entries-at (calls-children t) (children-at t) children.Post children-Inv-loop children-μ-loop
+children-mul-entries-at t c = search needs
 
-children-shared-slice-read-list-at : (t : ℕ) → children-lts.Need-shared-slice-read-list-at (calls-children t) (children-at t) children.Post children-Inv-loop children-μ-loop
-children-shared-slice-read-list-at t c = let q = c .before .before .before .before .before .before .before .before .before .before .before .before .before .pre .1 in omega (arith, q .0 .tabled .sized, stands _ _ (q .0 .tabled .opened) _ (q .1 .located .within .in-problem) .0)
+children-shared-slice-read-entries-at : (t : ℕ) → children-lts.Need-shared-slice-read-entries-at (calls-children t) (children-at t) children.Post children-Inv-loop children-μ-loop
+children-shared-slice-read-entries-at t c = let q = c .before .before .before .before .before .before .before .before .before .before .before .before .before .pre .1 in omega (arith, q .0 .tabled .sized, stands _ _ (q .0 .tabled .opened) _ (q .1 .located .within .in-problem) .0)
 
-children-cast-list-at : (t : ℕ) → children-lts.Need-cast-list-at (calls-children t) (children-at t) children.Post children-Inv-loop children-μ-loop
-children-cast-list-at t c = let q = c .before .before .before .before .before .before .before .before .before .before .before .before .before .pre .1 in omega (arith, two-operands _ _ _ (stands _ _ (q .0 .tabled .opened) _ (q .1 .located .within .in-problem) .1))
+children-cast-entries-at : (t : ℕ) → children-lts.Need-cast-entries-at (calls-children t) (children-at t) children.Post children-Inv-loop children-μ-loop
+children-cast-entries-at t c = let q = c .before .before .before .before .before .before .before .before .before .before .before .before .before .pre .1 in omega (arith, two-operands _ _ _ (stands _ _ (q .0 .tabled .opened) _ (q .1 .located .within .in-problem) .1))
 
-children-list-at-requires : (t : ℕ) → children-lts.Need-list-at-requires (calls-children t) (children-at t) children.Post children-Inv-loop children-μ-loop
-children-list-at-requires t c κs = let q = c .before .before .before .before .before .before .before .before .before .before .before .before .before .pre .1 in (stands _ _ (q .0 .tabled .opened) _ (q .1 .located .within .in-problem) .1, q .0 .numbers-are, split-decodes (q .1))
+children-entries-at-requires : (t : ℕ) → children-lts.Need-entries-at-requires (calls-children t) (children-at t) children.Post children-Inv-loop children-μ-loop
+children-entries-at-requires t c κs = let q = c .before .before .before .before .before .before .before .before .before .before .before .before .before .pre .1 in (stands _ _ (q .0 .tabled .opened) _ (q .1 .located .within .in-problem) .1, q .0 .numbers-are, split-decodes (q .1))
 
 children-slots-requires : (t : ℕ) → children-lts.Need-slots-requires (calls-children t) (children-at t) children.Post children-Inv-loop children-μ-loop
-children-slots-requires t c κs = c .list-at .ensures .handled
+children-slots-requires t c κs = c .entries-at .ensures .handled
 
 children-loop-holds : (t : ℕ) → children-lts.Need-loop-holds (calls-children t) (children-at t) children.Post children-Inv-loop children-μ-loop
 children-loop-holds t c =
     let l = c .before .before in
     let q = start t l .pre .1 in
-    (worked-begin (split-taking (q .0 .tabled .opened) (q .1) (l .list-at .ensures)) (q .1 .left _ (l .list-at .ensures)) (q .2), omega arith, refl, refl)
+    (worked-begin (split-taking (q .0 .tabled .opened) (q .1) (l .entries-at .ensures)) (q .1 .left _ (l .entries-at .ensures)) (q .2), omega arith, refl, refl)
 
 children-child-at-requires : (t : ℕ) → children-lts.Need-child-at-requires (calls-children t) (children-at t) children.Post children-Inv-loop children-μ-loop
 children-child-at-requires t c κs =
     let l = c .before .before .before .before .before .before .before in
     let q = start t l .pre .1 in
-    let s = split-taking (q .0 .tabled .opened) (q .1) (l .list-at .ensures) in
+    let s = split-taking (q .0 .tabled .opened) (q .1) (l .entries-at .ensures) in
     (q .1 .ready .sound .good .sized, q .1 .ready .sound .good .falls, is-placed s, free s, omega (arith, c .before .before .before .loop-test .taken, c .before .before .before .before .before .before .slots .ensures))
 
 children-perform-requires : (t : ℕ) → children-lts.Need-perform-requires (calls-children t) (children-at t) children.Post children-Inv-loop children-μ-loop
@@ -138,7 +138,7 @@ children-work-requires t c κs =
     let a = c .before .before .before .before .before .before .before in
     let l = listed t a in
     let q = start t l .pre .1 in
-    let s = split-taking (q .0 .tabled .opened) (q .1) (l .list-at .ensures) in
+    let s = split-taking (q .0 .tabled .opened) (q .1) (l .entries-at .ensures) in
     let v = turn t a .loop .inv .0 in
     let m = made s v (omega (arith, a .before .before .before .before .loop-test .taken, a .before .before .before .before .before .before .before .slots .ensures)) (a .child-at .ensures .0) (c .before .before .before .before .before .before .if1 .taken) (c .before .before .before .before .before .perform .ensures) in
     let x = opens s v (omega (arith, a .before .before .before .before .loop-test .taken, a .before .before .before .before .before .before .before .slots .ensures)) (a .child-at .ensures .0) (c .before .before .before .before .before .before .if1 .taken) (c .before .before .before .before .before .perform .ensures) in (
@@ -161,7 +161,7 @@ children-returns t c =
     let a = c .before .before .before .before .before .before .before .before .before .before .before .before .before .before in
     let l = listed t a in
     let q = start t l .pre .1 in
-    let s = split-taking (q .0 .tabled .opened) (q .1) (l .list-at .ensures) in
+    let s = split-taking (q .0 .tabled .opened) (q .1) (l .entries-at .ensures) in
     worked-stop s (turn t a .loop .inv .0) (omega (arith, a .before .before .before .before .loop-test .taken, a .before .before .before .before .before .before .before .slots .ensures)) (a .child-at .ensures .0) (c .before .before .before .before .before .before .before .before .before .before .before .before .before .if1 .taken) (c .before .before .before .before .before .before .before .before .before .before .before .before .perform .ensures) _ _ _ (c .before .before .before .before .before .before .work .ensures) (c .if2 .taken)
 
 children-add-k : (t : ℕ) → children-lts.Need-add-k (calls-children t) (children-at t) children.Post children-Inv-loop children-μ-loop
@@ -175,7 +175,7 @@ children-loop-again t c =
     let a = c .before in
     let l = listed t a in
     let q = start t l .pre .1 in
-    let s = split-taking (q .0 .tabled .opened) (q .1) (l .list-at .ensures) in
+    let s = split-taking (q .0 .tabled .opened) (q .1) (l .entries-at .ensures) in
     let v = turn t a .loop .inv in
     ⊎-elim
     (λ w. (
@@ -202,7 +202,7 @@ children-returns-2 : (t : ℕ) → children-lts.Need-returns-2 (calls-children t
 children-returns-2 t c =
     let l = c .before .before .before .before in
     let q = start t l .pre .1 in
-    worked-done (split-taking (q .0 .tabled .opened) (q .1) (l .list-at .ensures)) (c .before .loop .inv .0) (omega (arith, c .loop-test .left, c .before .before .before .slots .ensures))
+    worked-done (split-taking (q .0 .tabled .opened) (q .1) (l .entries-at .ensures)) (c .before .loop .inv .0) (omega (arith, c .loop-test .left, c .before .before .before .slots .ensures))
 
 -- ---- the branch's places: the start and the loop's turn before a search; the search before an act was told; the search for propagation rules before that for splits, and that before the children were kept
 
@@ -288,8 +288,8 @@ work-acted t c = let b = turn-of t (searched t (c .before)) .loop .at in
 work-add-t53 : (t : ℕ) → work-lts.Need-add-t53 (calls-work t) (work-at t) work.Post work-Inv-loop work-μ-loop
 work-add-t53 t c = let g = turn-of t (searched t (c .before)) .loop .inv .0 .going in omega (arith, g .within, g .few)
 
-work-note-requires-2 : (t : ℕ) → work-lts.Need-note-requires-2 (calls-work t) (work-at t) work.Post work-Inv-loop work-μ-loop
-work-note-requires-2 t c κs = let q = c .before .before .before in let g = turn-of t (searched t q) .loop .inv .0 .going in omega (arith, g .within, g .traced, q .before .before .before .before .before .if2 .left)
+work-write-step-requires : (t : ℕ) → work-lts.Need-write-step-requires (calls-work t) (work-at t) work.Post work-Inv-loop work-μ-loop
+work-write-step-requires t c κs = let q = c .before .before .before in let g = turn-of t (searched t q) .loop .inv .0 .going in omega (arith, g .within, g .traced, q .before .before .before .before .before .if2 .left)
 
 work-same-length-2 : (t : ℕ) → work-lts.Need-same-length-2 (calls-work t) (work-at t) work.Post work-Inv-loop work-μ-loop
 work-same-length-2 t c = c .before .trace .given ∙ turn-of t (searched t (c .before .before .before .before .before .before)) .loop .inv .1
@@ -306,10 +306,10 @@ work-returns-2 t c =
     let n = q .before .before .before .before .before .before .if1 .left in
     let k = taking (p .0 .tabled .opened) (y .sound) f (λ e. absurd (false≢true e)) n in
     let m = inferred k (q .act-of .ensures .0 _ _ (is-placed k) (first-there k)) (work-acted t j .1) in
-    reaches v _ _ (step-closes k _ _ (v .going) m (omega (arith, v .going .within, q .before .before .before .before .before .if2 .left)) (c .before .before .before .before .if3 .taken) _ (c .before .before .note2 .ensures) _)
+    reaches v _ _ (step-closes k _ _ (v .going) m (omega (arith, v .going .within, q .before .before .before .before .before .if2 .left)) (c .before .before .before .before .if3 .taken) _ (c .before .before .write-step .ensures) _)
 
-work-note-requires-3 : (t : ℕ) → work-lts.Need-note-requires-3 (calls-work t) (work-at t) work.Post work-Inv-loop work-μ-loop
-work-note-requires-3 t c κs = let q = c .before .before .before in let g = turn-of t (searched t q) .loop .inv .0 .going in omega (arith, g .within, g .traced, q .before .before .before .before .before .if2 .left)
+work-write-step-requires-2 : (t : ℕ) → work-lts.Need-write-step-requires-2 (calls-work t) (work-at t) work.Post work-Inv-loop work-μ-loop
+work-write-step-requires-2 t c κs = let q = c .before .before .before in let g = turn-of t (searched t q) .loop .inv .0 .going in omega (arith, g .within, g .traced, q .before .before .before .before .before .if2 .left)
 
 work-wakes-requires : (t : ℕ) → work-lts.Need-wakes-requires (calls-work t) (work-at t) work.Post work-Inv-loop work-μ-loop
 work-wakes-requires t c κs = start-of t (searched t (c .before .before .before .before .before .before)) .pre .1 .0 .words-are .long
@@ -342,7 +342,7 @@ work-loop-again t c =
     let d = work-acted t j in
     let m = inferred k (q .act-of .ensures .0 _ _ (is-placed k) (first-there k)) (d .1) in
     let x = c .before .before .before .before .before .before .if3 .left in (
-      reached-again v (step-goes k _ _ (v .going) m (omega (arith, v .going .within, q .before .before .before .before .before .if2 .left)) x _ (c .before .before .before .before .note3 .ensures)),
+      reached-again v (step-goes k _ _ (v .going) m (omega (arith, v .going .within, q .before .before .before .before .before .if2 .left)) x _ (c .before .before .before .before .write-step2 .ensures)),
       c .before .before .before .trace2 .given ∙ turn-of t s .loop .inv .1,
       widened (p .0) (narrowed (p .0) y f) (q .act-of .result) _ (work-rooted t q) (low-act k (q .act-of .result) (q .act-of .ensures .1 (f .there n .entries))) (subst (λ (a : Act). Wakes (start-of t s .args .words .now) a (c .before .wakes .result)) (d .0) (c .before .wakes .ensures)) (d .1) (child-sound k m x),
     )
@@ -393,11 +393,11 @@ work-returns-4 t c =
 work-cast-n : (t : ℕ) → work-lts.Need-cast-n (calls-work t) (work-at t) work.Post work-Inv-loop work-μ-loop
 work-cast-n t c = search needs
 
-work-mul-list-at : (t : ℕ) → work-lts.Need-mul-list-at (calls-work t) (work-at t) work.Post work-Inv-loop work-μ-loop
-work-mul-list-at t c = search needs
+work-mul-entries-at : (t : ℕ) → work-lts.Need-mul-entries-at (calls-work t) (work-at t) work.Post work-Inv-loop work-μ-loop
+work-mul-entries-at t c = search needs
 
-work-shared-slice-read-list-at : (t : ℕ) → work-lts.Need-shared-slice-read-list-at (calls-work t) (work-at t) work.Post work-Inv-loop work-μ-loop
-work-shared-slice-read-list-at t c =
+work-shared-slice-read-entries-at : (t : ℕ) → work-lts.Need-shared-slice-read-entries-at (calls-work t) (work-at t) work.Post work-Inv-loop work-μ-loop
+work-shared-slice-read-entries-at t c =
     let x = c .before .before .before .before in
     let s = settled t x in
     let p = start-of t s .pre .1 in
@@ -407,8 +407,8 @@ work-shared-slice-read-list-at t c =
     let h = x .search2 .ensures _ (shows (y .sound)) (y .splits) .there (c .before .before .before .if4 .left) in
     omega (arith, p .0 .tabled .sized, stands _ _ (p .0 .tabled .opened) _ (h .within .in-problem) .0)
 
-work-cast-list-at : (t : ℕ) → work-lts.Need-cast-list-at (calls-work t) (work-at t) work.Post work-Inv-loop work-μ-loop
-work-cast-list-at t c =
+work-cast-entries-at : (t : ℕ) → work-lts.Need-cast-entries-at (calls-work t) (work-at t) work.Post work-Inv-loop work-μ-loop
+work-cast-entries-at t c =
     let x = c .before .before .before .before in
     let s = settled t x in
     let p = start-of t s .pre .1 in
@@ -418,8 +418,8 @@ work-cast-list-at t c =
     let h = x .search2 .ensures _ (shows (y .sound)) (y .splits) .there (c .before .before .before .if4 .left) in
     omega (arith, two-operands _ _ _ (stands _ _ (p .0 .tabled .opened) _ (h .within .in-problem) .1))
 
-work-list-at-requires : (t : ℕ) → work-lts.Need-list-at-requires (calls-work t) (work-at t) work.Post work-Inv-loop work-μ-loop
-work-list-at-requires t c κs =
+work-entries-at-requires : (t : ℕ) → work-lts.Need-entries-at-requires (calls-work t) (work-at t) work.Post work-Inv-loop work-μ-loop
+work-entries-at-requires t c κs =
     let x = c .before .before .before .before in
     let s = settled t x in
     let p = start-of t s .pre .1 in
@@ -438,14 +438,14 @@ work-kept-requires t c κs =
     let y = turn-of t s .loop .inv .2 in
     let z = x .before .before .before .before .before .before .if1 .taken in
     let k = taking (p .0 .tabled .opened) (y .sound) (x .search2 .ensures _ (shows (y .sound)) (y .splits)) (λ _. (none-found (p .0 .tabled .opened) (y .sound) (s .search .ensures _ (shows (y .sound)) (y .propagation)) z)) (c .before .before .before .before .before .before .before .before .before .before .before .before .before .if4 .left) in
-    let r = relisted (rooted k) (c .before .before .before .before .before .before .before .before .before .list-at .ensures) in
+    let r = relisted (rooted k) (c .before .before .before .before .before .before .before .before .before .entries-at .ensures) in
     (y .sound .good .sized, y .sound .good .sized-in, y .sound .good .sized-out, y .sound .good .falls, y .sound .rowed .rows, is-placed r, free r)
 
-work-number-requires : (t : ℕ) → work-lts.Need-number-requires (calls-work t) (work-at t) work.Post work-Inv-loop work-μ-loop
-work-number-requires t c κs = search needs
+work-child-count-requires : (t : ℕ) → work-lts.Need-child-count-requires (calls-work t) (work-at t) work.Post work-Inv-loop work-μ-loop
+work-child-count-requires t c κs = search needs
 
-work-note-requires-4 : (t : ℕ) → work-lts.Need-note-requires-4 (calls-work t) (work-at t) work.Post work-Inv-loop work-μ-loop
-work-note-requires-4 t c κs = let k = c .before .before in let g = turn-of t (settled t (split-at t k)) .loop .inv .0 .going in omega (arith, g .within, g .traced, k .before .before .before .before .before .before .before .before .before .before .before .before .before .if5 .left)
+work-write-step-requires-3 : (t : ℕ) → work-lts.Need-write-step-requires-3 (calls-work t) (work-at t) work.Post work-Inv-loop work-μ-loop
+work-write-step-requires-3 t c κs = let k = c .before .before in let g = turn-of t (settled t (split-at t k)) .loop .inv .0 .going in omega (arith, g .within, g .traced, k .before .before .before .before .before .before .before .before .before .before .before .before .before .if5 .left)
 
 work-add-t68 : (t : ℕ) → work-lts.Need-add-t68 (calls-work t) (work-at t) work.Post work-Inv-loop work-μ-loop
 work-add-t68 t c = let g = turn-of t (settled t (split-at t (c .before .before .before .before .before))) .loop .inv .0 .going in omega (arith, g .within, g .few)
@@ -460,13 +460,13 @@ work-children-requires t c κs =
     let y = turn-of t s .loop .inv .2 in
     let z = x .before .before .before .before .before .before .if1 .taken in
     let k = taking (p .0 .tabled .opened) (y .sound) (x .search2 .ensures _ (shows (y .sound)) (y .splits)) (λ _. (none-found (p .0 .tabled .opened) (y .sound) (s .search .ensures _ (shows (y .sound)) (y .propagation)) z)) (i .before .before .before .before .before .before .before .before .before .before .before .before .before .before .if4 .left) in
-    let r = relisted (rooted k) (i .before .before .before .before .before .before .before .before .before .before .list-at .ensures) in
+    let r = relisted (rooted k) (i .before .before .before .before .before .before .before .before .before .before .entries-at .ensures) in
     let L = i .kept .ensures _ (y .sound .good) (y .sound .rowed .fixed) in (
       omega (arith, v .less, start-of t s .pre .0),
       (
         p .0,
         splitting r _ (search needs) L _ (narrowed-splits (p .0) (quieted (p .0) y (s .search .ensures _ (shows (y .sound)) (y .propagation)) z) (x .search2 .ensures _ (shows (y .sound)) (y .splits))),
-        split-begun (p .0 .tabled .opened) v _ r (i .before .before .before .before .before .before .before .before .before .before .before .before .before .if5 .left) _ (c .before .before .before .before .before .number .ensures ∙ left-number r _ (search needs) L) _ (c .before .before .before .before .note4 .ensures) (p .2 .fine),
+        split-begun (p .0 .tabled .opened) v _ r (i .before .before .before .before .before .before .before .before .before .before .before .before .before .if5 .left) _ (c .before .before .before .before .before .child-count .ensures ∙ left-number r _ (search needs) L) _ (c .before .before .before .before .write-step3 .ensures) (p .2 .fine),
       ),
     )
 
@@ -486,9 +486,9 @@ work-returns-5 t c =
     let y = turn-of t s .loop .inv .2 in
     let z = x .before .before .before .before .before .before .if1 .taken in
     let k = taking (p .0 .tabled .opened) (y .sound) (x .search2 .ensures _ (shows (y .sound)) (y .splits)) (λ _. (none-found (p .0 .tabled .opened) (y .sound) (s .search .ensures _ (shows (y .sound)) (y .propagation)) z)) (i .before .before .before .before .before .before .before .before .before .before .before .before .before .before .if4 .left) in
-    let r = relisted (rooted k) (i .before .before .before .before .before .before .before .before .before .before .list-at .ensures) in
+    let r = relisted (rooted k) (i .before .before .before .before .before .before .before .before .before .before .entries-at .ensures) in
     let L = i .kept .ensures _ (y .sound .good) (y .sound .rowed .fixed) in
-    works-split (p .0 .tabled .opened) v _ r (i .before .before .before .before .before .before .before .before .before .before .before .before .before .if5 .left) _ (c .before .before .before .before .before .before .before .before .before .before .number .ensures ∙ left-number r _ (search needs) L) _ (c .before .before .before .before .before .before .before .before .before .note4 .ensures) _ (c .before .before .before .before .children .ensures)
+    works-split (p .0 .tabled .opened) v _ r (i .before .before .before .before .before .before .before .before .before .before .before .before .before .if5 .left) _ (c .before .before .before .before .before .before .before .before .before .before .child-count .ensures ∙ left-number r _ (search needs) L) _ (c .before .before .before .before .before .before .before .before .before .write-step3 .ensures) _ (c .before .before .before .before .children .ensures)
 
 pub +children+work-spec : {M : Type 1} → statement M
 +children+work-spec = close μ-children μ-work (λ t. children-lts.spec (calls-children t)
@@ -497,10 +497,10 @@ pub +children+work-spec : {M : Type 1} → statement M
     children-Inv-loop
     children-μ-loop
     (children-cast-n t)
-    (children-mul-list-at t)
-    (children-shared-slice-read-list-at t)
-    (children-cast-list-at t)
-    (children-list-at-requires t)
+    (children-mul-entries-at t)
+    (children-shared-slice-read-entries-at t)
+    (children-cast-entries-at t)
+    (children-entries-at-requires t)
     (children-slots-requires t)
     (children-loop-holds t)
     (children-child-at-requires t)
@@ -532,10 +532,10 @@ pub +children+work-spec : {M : Type 1} → statement M
     (work-merge-requires t)
     (work-enum-told t)
     (work-add-t53 t)
-    (work-note-requires-2 t)
+    (work-write-step-requires t)
     (work-same-length-2 t)
     (work-returns-2 t)
-    (work-note-requires-3 t)
+    (work-write-step-requires-2 t)
     (work-wakes-requires t)
     (work-loop-less t)
     (work-loop-again t)
@@ -547,13 +547,13 @@ pub +children+work-spec : {M : Type 1} → statement M
     (work-same-length-5 t)
     (work-returns-4 t)
     (work-cast-n t)
-    (work-mul-list-at t)
-    (work-shared-slice-read-list-at t)
-    (work-cast-list-at t)
-    (work-list-at-requires t)
+    (work-mul-entries-at t)
+    (work-shared-slice-read-entries-at t)
+    (work-cast-entries-at t)
+    (work-entries-at-requires t)
     (work-kept-requires t)
-    (work-number-requires t)
-    (work-note-requires-4 t)
+    (work-child-count-requires t)
+    (work-write-step-requires-3 t)
     (work-add-t68 t)
     (work-children-requires t)
     (work-same-length-6 t)

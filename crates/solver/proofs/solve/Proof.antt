@@ -33,8 +33,8 @@ slice-aggregate-prepare-3 c = search needs
 prepare-requires : tie.Need-prepare-requires
 prepare-requires c κs = let b = c .before .before .before .before .before in (record { opened = entry (b .before) .pre .0; sized = sym (slice-aggregate-prepare-2 (c .before)); sized-witnesses = sym (slice-aggregate-prepare-3 c) }, b .numbers .ensures)
 
-lowest-requires : tie.Need-lowest-requires
-lowest-requires c κs = omega (arith, opened-sizes _ _ (c .before .before .before .before .before .before .before .before .before .before .before .pre .0) .0)
+low-bits-requires : tie.Need-low-bits-requires
+low-bits-requires c κs = omega (arith, opened-sizes _ _ (c .before .before .before .before .before .before .before .before .before .before .before .pre .0) .0)
 
 slice-aggregate-work : tie.Need-slice-aggregate-work
 slice-aggregate-work c = search needs
@@ -53,7 +53,7 @@ work-requires c κs =
     let b = c .before .before .before .before .before .before .before .before .before .before .before .before .before in
     let p = entry (b .before) .pre in (
       record { tabled = record { opened = p .0; sized = sym (slice-aggregate-prepare-2 (c .before .before .before .before .before .before .before .before .before)); sized-witnesses = sym (slice-aggregate-prepare-3 (c .before .before .before .before .before .before .before .before)) }; numbers-are = b .numbers .ensures; words-are = c .before .before .before .before .before .before .before .prepare .ensures },
-      all-ready (p .0) (start-sound _ _ (b .before .start .ensures)) (c .before .before .before .before .before .before .lowest .ensures),
+      all-ready (p .0) (start-sound _ _ (b .before .start .ensures)) (c .before .before .before .before .before .before .low-bits .ensures),
       record { on = refl; fine = begun-fine _ _ _ _ (p .1) (p .2); no-terms = λ _. refl },
     )
 
@@ -79,7 +79,7 @@ solve-spec =
     slice-aggregate-prepare-2
     slice-aggregate-prepare-3
     prepare-requires
-    lowest-requires
+    low-bits-requires
     slice-aggregate-work
     slice-aggregate-work-2
     slice-aggregate-work-3

@@ -5,7 +5,7 @@ use borrow.Author.Needs.{needs}
 use Rattle.calculus.proofs.Masks.{bit-zero}
 use Rattle.quiet.specs.Quiet.{pairMark, markWord}
 use Rattle.step.specs.declared.Act.{Act}
-use Rattle.solver.specs.Outcomes.{Wakes}
+use Rattle.solver.specs.ComesTo.{Wakes}
 use Rattle.solver.proofs.wakes.Statement.{statement}
 use Rattle.solver.proofs.wakes.Tie as tie
 

@@ -7,12 +7,12 @@ use lib.ListN.{take, drop}
 use Rattle.calculus.specs.Limits.{mostSets}
 use Rattle.calculus.specs.Reading.{letters}
 use Rattle.problem.specs.Sections.{setsTest}
-use Rattle.problem.proofs.SectionLaws.{Stands, found, passes-on, answers-yes, answers-no, names-part, too-many}
+use Rattle.problem.proofs.SectionLaws.{SectionStands, found, passes-on, answers-yes, answers-no, names-part, too-many}
 use Rattle.problem.proofs.sections.sets_at.Statement.{statement}
 use Rattle.problem.proofs.sections.sets_at.Tie as tie
 
 -- where the section stands
-stands : (c : tie.Else2) → Stands 1 (c .before .before .before .before .before .before .args .problem .now) (c .before .before .before .before .before .before .args .at) (c .before .before .before .before .section-at .result)
+stands : (c : tie.Else2) → SectionStands 1 (c .before .before .before .before .before .before .args .problem .now) (c .before .before .before .before .before .before .args .at) (c .before .before .before .before .section-at .result)
 stands c = let k = c .before .before .before .before .section-at in found 1 (c .before .before .before .before .before .before .args .problem .now) (c .before .before .before .before .before .before .args .at) (k .result) (k .ensures) (c .before .before .if1 .left) .0
 
 section-at-requires : tie.Need-section-at-requires

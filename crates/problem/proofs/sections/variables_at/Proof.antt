@@ -4,12 +4,12 @@ use mathlib.Core.Path.{sym, _∙_}
 use Prim.Native.Nat.{_-_}
 use native.Mathlib.Omega.{arith}
 use Rattle.problem.specs.Sections.{variablesTest}
-use Rattle.problem.proofs.SectionLaws.{Stands, found, passes-on, answers-yes, answers-no, names-part}
+use Rattle.problem.proofs.SectionLaws.{SectionStands, found, passes-on, answers-yes, answers-no, names-part}
 use Rattle.problem.proofs.sections.variables_at.Statement.{statement}
 use Rattle.problem.proofs.sections.variables_at.Tie as tie
 
 -- where the section stands
-stands : (c : tie.Else1) → Stands 1 (c .before .before .before .before .args .problem .now) (c .before .before .before .before .args .at) (c .before .before .section-at .result)
+stands : (c : tie.Else1) → SectionStands 1 (c .before .before .before .before .args .problem .now) (c .before .before .before .before .args .at) (c .before .before .section-at .result)
 stands c = let k = c .before .before .section-at in found 1 (c .before .before .before .before .args .problem .now) (c .before .before .before .before .args .at) (k .result) (k .ensures) (c .if1 .left) .0
 
 section-at-requires : tie.Need-section-at-requires

@@ -1,3 +1,0 @@
-pub mod Listing
-pub mod Playing
-pub mod Tallied

@@ -1,0 +1,3 @@
+pub mod FormWriting
+pub mod Playing
+pub mod Tallied
