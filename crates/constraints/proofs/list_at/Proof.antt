@@ -14,28 +14,10 @@ start c = c .before .before .before .before .before
 abbrev list : tie.After-struct-known2 → tie.After-known-told
 list c = c .before .before .before .before .before
 
-enum-known-l : tie.Need-enum-known-l
-enum-known-l c = search needs
-
-sub-result : tie.Need-sub-result
-sub-result c = search needs
-
-part-result-start : tie.Need-part-result-start
-part-result-start c = search needs
-
-part-result-end : tie.Need-part-result-end
-part-result-end c = search needs
-
 returns : tie.Need-returns
 returns c =
     let s = c .before .before .before .before in
     decoding.others-unpacked _ _ _ (s .pre .0) _ (s .pre .2) (c .before .match .keys2)
-
-enum-known-k : tie.Need-enum-known-k
-enum-known-k c = search needs
-
-enum-told : tie.Need-enum-told
-enum-told c = search needs
 
 entries-requires : tie.Need-entries-requires
 entries-requires c κs =
@@ -49,35 +31,11 @@ returns-2 c =
     let s = start k in
     decoding.list-unpacked _ _ _ (s .pre .0) _ (s .pre .2) (decoding.listed-as (k .before .l .given .1) (c .before .enum-told .given .1)) (k .before .before .before .before .shared-slice-known .given) _ (c .entries .ensures)
 
-cast-a : tie.Need-cast-a
-cast-a c = search needs
-
-cast-z : tie.Need-cast-z
-cast-z c = search needs
-
-sub-result-2 : tie.Need-sub-result-2
-sub-result-2 c = search needs
-
-part-result-start-2 : tie.Need-part-result-start-2
-part-result-start-2 c = search needs
-
-part-result-end-2 : tie.Need-part-result-end-2
-part-result-end-2 c = search needs
-
 returns-3 : tie.Need-returns-3
 returns-3 c =
     let z = c .before .before in
     let s = start (list z) in
     decoding.interval-empty _ _ _ (s .pre .0) _ (s .pre .2) (decoding.listed-as (list z .before .l .given .1) (z .before .before .before .k .given .1)) (omega (arith, c .before .if1 .taken))
-
-add-e : tie.Need-add-e
-add-e c = search needs
-
-sub-result-3 : tie.Need-sub-result-3
-sub-result-3 c = search needs
-
-part-result-start-3 : tie.Need-part-result-start-3
-part-result-start-3 c = search needs
 
 part-result-end-3 : tie.Need-part-result-end-3
 part-result-end-3 c =
@@ -95,23 +53,23 @@ pub list-at-spec : {M : Type 1} → statement M
 list-at-spec =
     tie.close
     (tie.spec
-    enum-known-l
-    sub-result
-    part-result-start
-    part-result-end
+    (λ c. search needs)
+    (λ c. search needs)
+    (λ c. search needs)
+    (λ c. search needs)
     returns
-    enum-known-k
-    enum-told
+    (λ c. search needs)
+    (λ c. search needs)
     entries-requires
     returns-2
-    cast-a
-    cast-z
-    sub-result-2
-    part-result-start-2
-    part-result-end-2
+    (λ c. search needs)
+    (λ c. search needs)
+    (λ c. search needs)
+    (λ c. search needs)
+    (λ c. search needs)
     returns-3
-    add-e
-    sub-result-3
-    part-result-start-3
+    (λ c. search needs)
+    (λ c. search needs)
+    (λ c. search needs)
     part-result-end-3
     returns-4)
