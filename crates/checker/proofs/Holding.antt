@@ -24,13 +24,14 @@ use Rattle.calculus.proofs.ReadValid.{read-valid}
 use Rattle.problem.specs.declared.Table.{Table}
 use Rattle.problem.specs.Table.{problemTable, Opened, constraintsOf, constraintOf, noConstraint}
 use Rattle.problem.proofs.Access.{opened, opened-sizes, constant-read}
-use Rattle.terms.specs.declared.Term as codeTerm
 use Rattle.terms.specs.declared.SetVar as codeSet
 use Rattle.constraints.specs.declared.Constraint as code
-use Rattle.constraints.specs.declared.Constraint.the-variants.{Interval}
+use Rattle.constraints.specs.declared.Constraint.the-variants.{Listed}
+use Rattle.constraints.specs.declared.Entries.{Entries}
+use Rattle.constraints.specs.declared.Entries.the-variants.{Written, Interval}
 use Rattle.constraints.specs.declared.Negation as codeNegation
 use Rattle.constraints.specs.declared.Negation.the-variants.{Unequal}
-use Rattle.constraints.specs.Decoded.{decoded, negationOf, Unpacked}
+use Rattle.constraints.specs.Decoded.{listOf, decoded, negationOf, Unpacked}
 use Rattle.assignment.specs.declared.Layout.{Layout}
 use Rattle.assignment.specs.Laid.{membersAt}
 use Rattle.checker.specs.Tested.{valueAt, seen, Readable, entriesIn, Fitting, failing}
@@ -69,18 +70,19 @@ module _ (bs : List ℕ) (tab : Table) (o : Opened bs tab) (hs : List ℕ) (at :
     known-test k e v b q = q ∙ ap (λ (x : code.Constraint). holds? v (decoded (map term es) x)) (sym e) ∙ ap (holds? v) (sym (u .is))
 
     -- the entries of a list can be read
-    pub entries-readable : Each (λ (t : Term). t .index < tab .constants + tab .variables) (map term es) → Each (Readable bs tab hs) es
+    entries-readable : Each (λ (t : Term). t .index < tab .constants + tab .variables) (map term es) → Each (Readable bs tab hs) es
     entries-readable = go es
       where
         go : (xs : List ℕ) → Each (λ (t : Term). t .index < tab .constants + tab .variables) (map term xs) → Each (Readable bs tab hs) xs
         go [] w = tt
         go (x ∷ xs) w = (readable x (w .0), go xs (w .1))
 
-    -- an interval's entries are constants
-    pub interval-entries : (A : codeSet.SetVar) (x y : codeTerm.Term) → c ≡ Interval A x y → Each (Readable bs tab hs) es
-    interval-entries A x y e =
-        let r = named (Interval A x y) e in
-        entries-readable (subst (Each (λ (t : Term). t .index < tab .constants + tab .variables)) (sym (r .4)) (terms-each (λ (t : Term). t .index < tab .constants + tab .variables) (x .0) (suc (y .0) - x .0) (λ t g h. omega (arith, r .1, r .2, constants-count))))
+    -- its set is there too; an interval's entries are constants
+    pub list-readable : (k : Entries) (A : codeSet.SetVar) → c ≡ Listed k A → (A .0 < tab .sets) × Each (Readable bs tab hs) es
+    list-readable Written A e = let r = named (Listed Written A) e in (r .0, entries-readable (r .1))
+    list-readable (Interval x y) A e =
+        let r = named (Listed (Interval x y) A) e in
+        (r .0, entries-readable (subst (Each (λ (t : Term). t .index < tab .constants + tab .variables)) (sym (r .4)) (terms-each (λ (t : Term). t .index < tab .constants + tab .variables) (x .0) (suc (y .0) - x .0) (λ t g h. omega (arith, r .1, r .2, constants-count)))))
 
   -- the members of a set are there
   pub members-in : (A : ℕ) → A < tab .sets → (A < mostSets) × (getD (at .starts) A 0 + 2 * getD (at .counts) A 0 ≤ length hs)
@@ -102,11 +104,16 @@ module _ (bs : List ℕ) (tab : Table) (hs : List ℕ) (at : Layout) where
       → b ≡ relates? k (here .members (setVar A)) (here .members (setVar B)) (here .members (setVar C))
   relates-test b k l m r A B C el em er e = rw (sym el, sym em, sym er) e
 
-  pub exactly-test : (b : Bool) (m es : List ℕ) (A : ℕ) → m ≡ membersAt hs at A → b ≡ entriesIn bs tab hs es (words m) → b ≡ exactly? here (setVar A) (map term es)
-  exactly-test b m es A em e = e ∙ ap (λ (l : List ℕ). entriesIn bs tab hs es (words l)) em
+  exact : (k : Entries) (A : SetVar) (ts : List Term) → exactly? here A ts ≡ holds? here (listOf k A ts)
+  exact Written A ts = refl
+  exact (Interval x y) A ts = refl
+
+  pub list-test : (k : Entries) (b : Bool) (m es : List ℕ) (A : ℕ) → m ≡ membersAt hs at A → b ≡ entriesIn bs tab hs es (words m) → b ≡ holds? here (listOf k (setVar A) (map term es))
+  list-test k b m es A em e = e ∙ ap (λ (l : List ℕ). entriesIn bs tab hs es (words l)) em
       ∙ ap₂ (λ (x y : Bool). x && y)
       (ap (λ (ys : List ℤ). all (has ys) (words (membersAt hs at A))) (sym (map-map (λ (t : Term). valueAt bs tab hs (t .index)) term es)))
       (sym (all-map (λ (t : Term). has (words (membersAt hs at A)) (valueAt bs tab hs (t .index))) term es))
+      ∙ exact k (setVar A) (map term es)
 
 -- what a negation denies is equality
 pub negated-relates : (n : codeNegation.Negation) (b : Bool) (l m r : List ℤ) → b ≡ relates? equal l m r → b ≡ relates? (denies (negationOf n)) l m r

@@ -163,14 +163,7 @@ fn holds<'a>(
             let z = members(assignment, at, c);
             !relates(Relation::Equal, x, y, z)
         }
-        Constraint::Exactly(a) => exactly(
-            problem,
-            tab,
-            assignment,
-            entries,
-            members(assignment, at, a),
-        ),
-        Constraint::Interval(a, _, _) => exactly(
+        Constraint::Listed(_, a) => exactly(
             problem,
             tab,
             assignment,

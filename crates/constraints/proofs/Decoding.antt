@@ -27,10 +27,12 @@ use Rattle.slices.proofs.Parts.{AllBytes}
 use Rattle.problem.specs.declared.Table.{Table}
 use Rattle.problem.specs.Table.{problemTable, Opened, Stands, constraintsOf, noConstraint, constraintOf, kindOf, witnessOf}
 use Rattle.problem.proofs.Access.{Read, opened, Placed, placed, place-of, kind-read, witness-read, witness-is, opened-sizes}
+use Rattle.constraints.specs.declared.Entries.{Entries}
+use Rattle.constraints.specs.declared.Entries.the-variants.{Written, Interval}
 use Rattle.constraints.specs.declared.Constraint.{Constraint}
-use Rattle.constraints.specs.declared.Constraint.the-variants.{Member, Nonmember, Same, Different, Related, Negated, Exactly, Interval}
+use Rattle.constraints.specs.declared.Constraint.the-variants.{Member, Nonmember, Same, Different, Related, Negated, Listed}
 use Rattle.places.specs.Places.{entriesOf}
-use Rattle.constraints.specs.Decoded.{decoded, Unpacked}
+use Rattle.constraints.specs.Decoded.{listOf, decoded, Unpacked}
 use Rattle.constraints.proofs.Constraint.{the-type}
 
 -- ---- by the kind
@@ -141,23 +143,31 @@ up-part (suc n) zero (suc k) s t e l = ap₂ (λ (x : ℕ) (xs : List ℕ). x �
 up-part (suc n) (suc a) zero s t e l = absurd (omega arith)
 up-part (suc n) (suc a) (suc k) s t e l = up-part (suc n) a k (suc s) t (omega arith) (omega arith)
 
--- the variants but a list, and but an interval
+-- a list in range has its set in range
+pub list-set : (es : List Term) {l : Constraint} {k : Entries} {A : sets.SetVar} → l ≡ Listed k A → ConstraintIn mostTerms mostSets (decoded es l) → A .0 < mostSets
+list-set es {k = k} {A} e c = go k (subst (λ (x : Constraint). ConstraintIn mostTerms mostSets (decoded es x)) e c)
+  where
+    go : (k : Entries) → ConstraintIn mostTerms mostSets (listOf k (setVar (A .0)) es) → A .0 < mostSets
+    go Written c = c .0
+    go (Interval t u) c = c .0
+
+-- the variants but a list
 abbrev NoList : Constraint → Type 0
-NoList r = OneOf (0 ∷ 1 ∷ 2 ∷ 3 ∷ 4 ∷ 5 ∷ 7 ∷ []) (tagOf the-type r)
+NoList r = OneOf (0 ∷ 1 ∷ 2 ∷ 3 ∷ 4 ∷ 5 ∷ []) (tagOf the-type r)
 
-abbrev NoInterval : Constraint → Type 0
-NoInterval r = OneOf (0 ∷ 1 ∷ 2 ∷ 3 ∷ 4 ∷ 5 ∷ 6 ∷ []) (tagOf the-type r)
+-- a list, as its entries were matched
+pub listed-as : {r : Constraint} {k m : Entries} {A : sets.SetVar} → r ≡ Listed k A → k ≡ m → r ≡ Listed m A
+listed-as {A = A} e q = e ∙ ap (λ (x : Entries). Listed x A) q
 
--- one that is neither has no entries
-no-entries : (r : Constraint) → NoList r → NoInterval r → (es : List Term) → (decoded es r ≡ decoded [] r) × (entriesOf (decoded [] r) ≡ [])
-no-entries (Member t A) a b es = (refl, refl)
-no-entries (Nonmember t A) a b es = (refl, refl)
-no-entries (Same t u) a b es = (refl, refl)
-no-entries (Different t u) a b es = (refl, refl)
-no-entries (Related k A B C) a b es = (refl, refl)
-no-entries (Negated k A B C w) a b es = (refl, refl)
-no-entries (Exactly A) a b es = absurd (miss (0 ∷ 1 ∷ 2 ∷ 3 ∷ 4 ∷ 5 ∷ 7 ∷ []) 6 tt a)
-no-entries (Interval A t u) a b es = absurd (miss (0 ∷ 1 ∷ 2 ∷ 3 ∷ 4 ∷ 5 ∷ 6 ∷ []) 7 tt b)
+-- one that is no list has no entries
+no-entries : (r : Constraint) → NoList r → (es : List Term) → (decoded es r ≡ decoded [] r) × (entriesOf (decoded [] r) ≡ [])
+no-entries (Member t A) a es = (refl, refl)
+no-entries (Nonmember t A) a es = (refl, refl)
+no-entries (Same t u) a es = (refl, refl)
+no-entries (Different t u) a es = (refl, refl)
+no-entries (Related k A B C) a es = (refl, refl)
+no-entries (Negated k A B C w) a es = (refl, refl)
+no-entries (Listed k A) a es = absurd (miss (0 ∷ 1 ∷ 2 ∷ 3 ∷ 4 ∷ 5 ∷ []) 6 tt a)
 
 -- where the table says that it stands, and what it says of its witness
 pub stands-there : (bs : List ℕ) (tab : Table) (i : ℕ) → Opened bs tab → i < tab .constraints → (i < mostConstraints) × Stands bs i (getD (tab .offsets) i 0) × (term (getD (tab .witnesses) i 0) ≡ witnessOf bs i)
@@ -223,7 +233,7 @@ module _ (bs : List ℕ) (i at : ℕ) (st : Stands bs i at) where
 
   module _ (r : Constraint) (is : this ≡ decoded (entriesOf this) r) where
     -- a list's: as many as its count byte says
-    module _ (A : sets.SetVar) (e : r ≡ Exactly A) where
+    module _ {A : sets.SetVar} (e : r ≡ Listed Written A) where
       pub list-kind : kindOf this ≡ 11
       list-kind = ap kindOf (is ∙ ap (decoded (entriesOf this)) e)
 
@@ -234,7 +244,7 @@ module _ (bs : List ℕ) (i at : ℕ) (st : Stands bs i at) where
           unpacked es r (q ∙ ap (decoded (map term es)) (sym e)) (ap (λ (x : Constraint). entriesOf (decoded (map term es) x)) e) (omega (arith, known (at + 2), length-map es term))
 
     -- an interval's: the numbers from its first entry to its last
-    module _ (A : sets.SetVar) (t u : terms.Term) (e : r ≡ Interval A t u) where
+    module _ {A : sets.SetVar} {t u : terms.Term} (e : r ≡ Listed (Interval t u) A) where
       -- its entries are those numbers
       filled : entriesOf this ≡ entries (term (t .0)) (term (u .0))
       filled = subst (Refers (prob .constants) (nameable prob) (setCount prob)) (is ∙ ap (decoded (entriesOf this)) e) refers .4
@@ -245,7 +255,7 @@ module _ (bs : List ℕ) (i at : ℕ) (st : Stands bs i at) where
       -- an interval that is not empty ends below mostTerms
       pub interval-end : t .0 ≤ u .0 → u .0 < mostTerms
       interval-end h =
-          let a : ConstraintIn mostTerms mostSets (decoded (entries (term (t .0)) (term (u .0))) (Interval A t u)) = subst (ConstraintIn mostTerms mostSets) (is ∙ ap₂ decoded filled e) in-range in
+          let a : ConstraintIn mostTerms mostSets (decoded (entries (term (t .0)) (term (u .0))) (Listed (Interval t u) A)) = subst (ConstraintIn mostTerms mostSets) (is ∙ ap₂ decoded filled e) in-range in
           terms-at (λ x. x .index < mostTerms) (t .0) (suc (u .0) - t .0) (a .1) (u .0) h (omega arith)
 
       pub interval-unpacked : t .0 ≤ u .0 → (es numbers : List ℕ) → numbers ≡ upFrom 0 mostTerms → es ≡ take (u .0 + 1 - t .0) (drop (t .0) numbers) → Unpacked bs i es r
@@ -259,5 +269,5 @@ module _ (bs : List ℕ) (i at : ℕ) (st : Stands bs i at) where
       interval-empty h = let z : suc (u .0) - t .0 ≡ 0 = omega arith in interval-is [] (ap (upFrom (t .0)) z) (omega arith)
 
     -- any other's: none
-    pub others-unpacked : NoList r → NoInterval r → Unpacked bs i [] r
-    others-unpacked a b = let n = no-entries r a b (entriesOf this) in unpacked [] r (is ∙ n .0) (n .1) (omega arith)
+    pub others-unpacked : NoList r → Unpacked bs i [] r
+    others-unpacked a = let n = no-entries r a (entriesOf this) in unpacked [] r (is ∙ n .0) (n .1) (omega arith)

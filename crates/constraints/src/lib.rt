@@ -25,6 +25,12 @@ pub enum Negation {
     Unequal,
 }
 
+// Where the entries of a set are: written in the problem, or the numbers from a first to a last.
+pub enum Entries {
+    Written,
+    Interval(Term, Term),
+}
+
 // A constraint with its operands; one of two sets repeats its first operand. The entries of a list or an interval are handed on beside it (`list_at`).
 pub enum Constraint {
     Member(Term, SetVar),
@@ -33,8 +39,7 @@ pub enum Constraint {
     Different(Term, Term),
     Related(Relation, SetVar, SetVar, SetVar),
     Negated(Negation, SetVar, SetVar, SetVar, Term),
-    Exactly(SetVar),
-    Interval(SetVar, Term, Term),
+    Listed(Entries, SetVar),
 }
 
 // Constraint i, which stands at an offset and whose witness is w.
@@ -65,9 +70,9 @@ pub fn decode_at(problem: &[u8], i: usize, at: usize, w: u8) -> Constraint
             SetVar(q),
             SetVar(problem[at + 3]),
         ),
-        11 => Constraint::Exactly(SetVar(p)),
+        11 => Constraint::Listed(Entries::Written, SetVar(p)),
         // kind 12
-        _ => Constraint::Interval(SetVar(p), Term(q), Term(problem[at + 3])),
+        _ => Constraint::Listed(Entries::Interval(Term(q), Term(problem[at + 3])), SetVar(p)),
     }
 }
 
@@ -93,19 +98,19 @@ pub fn entries_at<'a>(
     requires { ⌜ Stands (now problem) i at × (now numbers ≡ upFrom 0 mostTerms) × (constraintOf (now problem) i ≡ decoded (entriesOf (constraintOf (now problem) i)) l) ⌝ }
     ensures { λ r. ⌜ Unpacked (now (problem .entry)) i (now r) l ⌝ }
 {
-    if let Constraint::Exactly(_) = l {
+    let Constraint::Listed(k, _) = l else {
+        return &numbers[0..0];
+    };
+    let Entries::Interval(first, last) = k else {
         return entries(problem, i, at);
+    };
+    let a = first.0 as usize;
+    let z = last.0 as usize;
+    if z < a {
+        return &numbers[0..0];
     }
-    if let Constraint::Interval(_, first, last) = l {
-        let a = first.0 as usize;
-        let z = last.0 as usize;
-        if z < a {
-            return &numbers[0..0];
-        }
-        let e = z + 1;
-        return &numbers[a..e];
-    }
-    &numbers[0..0]
+    let e = z + 1;
+    &numbers[a..e]
 }
 
 // The entries of constraint i.

@@ -32,12 +32,13 @@ use Rattle.branch.proofs.Roots.{root-is, root-range}
 use Rattle.places.specs.Places.{RuleOf, rowOf, moveAt, listMove, entriesOf, roots, positions, firstAt}
 use Rattle.places.proofs.Offered.{by-position}
 use Rattle.constraints.specs.declared.Constraint.{Constraint as Coded}
-use Rattle.constraints.specs.declared.Constraint.the-variants.{Member, Nonmember, Same as Equated, Different, Related, Negated, Exactly, Interval}
+use Rattle.constraints.specs.declared.Constraint.the-variants.{Member, Nonmember, Same as Equated, Different, Related, Negated, Listed}
 use Rattle.constraints.specs.declared.Relation.{Relation as CodedRelation}
 use Rattle.terms.specs.declared.SetVar.{SetVar as CodedSet}
 use Rattle.constraints.specs.declared.Negation.{Negation as CodedNegation}
 use Rattle.terms.specs.declared.Term.{Term as CodedTerm}
 use Rattle.constraints.specs.declared.Negation.the-variants.{Unequal}
+use Rattle.constraints.specs.declared.Entries.the-variants.{Written, Interval}
 use Rattle.constraints.specs.Decoded.{relationOf, negationOf, decoded, Handled}
 use Rattle.rules.specs.declared.Child.{Child}
 use Rattle.rules.specs.declared.Denial.{Denial}
@@ -59,8 +60,7 @@ module _ (ps rows es : List ℕ) (j : ℕ) where
   IsWord (Different t u) w = w ≡ bitAnd (2 ^ rootOf ps (t .0)) (2 ^ rootOf ps (u .0))
   IsWord (Related k A B C) w = (splitting j ≡ false → w ≡ forcedWord rows (laid (sets A B C) (numbered j))) × (splitting j ≡ true → w ≡ dividedWord rows (parted (sets A B C) (numbered j)))
   IsWord (Negated k A B C x) w = w ≡ deniedWord rows (denying (sets A B C) (negationRow (negationOf k))) (rootOf ps (x .0))
-  IsWord (Exactly A) w = ByEntries ps (getD rows (A .0) 0) es j w
-  IsWord (Interval A x y) w = ByEntries ps (getD rows (A .0) 0) es j w
+  IsWord (Listed k A) w = ByEntries ps (getD rows (A .0) 0) es j w
 
 -- a test of one fact
 once : (a : Bool) → not ((a && true) || false) ≡ not a
@@ -251,8 +251,8 @@ fits-of n b rows es j of fall few (Related k A B C) c r w i = go (splitting j) r
     go true z = divided-fits n b rows of fall few (relationOf k) (setVar (A .0)) (setVar (B .0)) (setVar (C .0)) j r c z w (i .1 z)
     go false z = forced-fits n b rows of fall few (relationOf k) (setVar (A .0)) (setVar (B .0)) (setVar (C .0)) j r c z w (i .0 z)
 fits-of n b rows es j of fall few (Negated k A B C x) c r w i = denied-fits n b rows of fall few (negationOf k) (setVar (A .0)) (setVar (B .0)) (setVar (C .0)) (x .0) j (c .0) (c .1) w i
-fits-of n b rows es j of fall few (Exactly A) c r w i = list-fits n b rows of fall few (setVar (A .0)) (c .0) (exactly (setVar (A .0)) (map term es)) j es (each-term n es (c .1)) w i (λ p. refl) refl
-fits-of n b rows es j of fall few (Interval A x y) c r w i =
+fits-of n b rows es j of fall few (Listed Written A) c r w i = list-fits n b rows of fall few (setVar (A .0)) (c .0) (exactly (setVar (A .0)) (map term es)) j es (each-term n es (c .1)) w i (λ p. refl) refl
+fits-of n b rows es j of fall few (Listed (Interval x y) A) c r w i =
     list-fits n b rows of fall few (setVar (A .0)) (c .0) (interval (setVar (A .0)) (term (x .0)) (term (y .0)) (map term es)) j es (each-term n es (c .1)) w i (λ p. refl) refl
 
 -- for the code: l is what was matched as m

@@ -268,8 +268,7 @@ pub fn rests(parents: &[u8], rows: &[u64], entries: u64, l: Constraint, split: b
 {
     match l {
         Constraint::Different(t, u) => together(parents, t, u) == 0,
-        Constraint::Exactly(a) => unshared(rows, entries, a, split) == 0,
-        Constraint::Interval(a, _, _) => unshared(rows, entries, a, split) == 0,
+        Constraint::Listed(_, a) => unshared(rows, entries, a, split) == 0,
         _ => false,
     }
 }
@@ -302,7 +301,6 @@ pub fn fitting(parents: &[u8], rows: &[u64], list: &[u8], word: u64, l: Constrai
             forced(rows, row_of(rule, a, b, c))
         }
         Constraint::Negated(_, a, b, c, w) => denied(parents, rows, denial_of(a, b, c), w),
-        Constraint::Exactly(a) => by_entries(parents, rows, list, word, a, rule),
-        Constraint::Interval(a, _, _) => by_entries(parents, rows, list, word, a, rule),
+        Constraint::Listed(_, a) => by_entries(parents, rows, list, word, a, rule),
     }
 }

@@ -33,7 +33,8 @@ use Rattle.branch.proofs.Roots.{root-is}
 use Rattle.terms.specs.declared.SetVar.{SetVar as CodedSet}
 use Rattle.places.specs.Places.{spanOf, InSpan, moveAt, entriesOf, roots, firstAt}
 use Rattle.constraints.specs.declared.Constraint.{Constraint as Coded}
-use Rattle.constraints.specs.declared.Constraint.the-variants.{Member, Nonmember, Same, Different, Related, Negated, Exactly, Interval}
+use Rattle.constraints.specs.declared.Constraint.the-variants.{Member, Nonmember, Same, Different, Related, Negated, Listed}
+use Rattle.constraints.specs.declared.Entries.the-variants.{Written, Interval}
 use Rattle.constraints.specs.Decoded.{decoded}
 use Rattle.rules.specs.Words.{unsharedOf, restsBy, Shown}
 use Rattle.rules.proofs.RowBits.{known-in}
@@ -133,8 +134,8 @@ rest-idle {bs} {offsets} {words = words} {ps} {lines} {i} split l t w is rest n 
     go (Different x y) ts k c f j v = different-idle split n b (term (x .0)) (term (y .0)) (λ q. bits-apart refl (eqb-true _ 0 k) (sym (root (x .0)) ∙ q ∙ root (y .0))) j v
     go (Related r A B C) ts k c f j v = absurd (false≢true k)
     go (Negated r A B C x) ts k c f j v = absurd (false≢true k)
-    go (Exactly A) ts k c f j v = list split A ts (c .0) (c .1) f k j v
-    go (Interval A x y) ts k c f j v = interval-is split A (term (x .0)) (term (y .0)) ts (list split A ts (c .0) (c .1) f k) j v
+    go (Listed Written A) ts k c f j v = list split A ts (c .0) (c .1) f k j v
+    go (Listed (Interval x y) A) ts k c f j v = interval-is split A (term (x .0)) (term (y .0)) ts (list split A ts (c .0) (c .1) f k) j v
 
 -- its operands are in range, whatever its entries are
 pub unlisted-in : (l : Coded) (ts : List Term) → ConstraintIn mostTerms mostSets (decoded ts l) → ConstraintIn mostTerms mostSets (decoded [] l)
@@ -144,8 +145,8 @@ unlisted-in (Same t u) ts c = c
 unlisted-in (Different t u) ts c = c
 unlisted-in (Related k A B C) ts c = c
 unlisted-in (Negated k A B C w) ts c = c
-unlisted-in (Exactly A) ts c = (c .0, tt)
-unlisted-in (Interval A x y) ts c = (c .0, tt)
+unlisted-in (Listed Written A) ts c = (c .0, tt)
+unlisted-in (Listed (Interval x y) A) ts c = (c .0, tt)
 
 -- ---- masks
 

@@ -29,10 +29,12 @@ use Rattle.terms.specs.declared.Term.{Term as CodedTerm}
 use Rattle.constraints.specs.declared.Relation.{Relation as CodedRelation}
 use Rattle.constraints.specs.declared.Negation.{Negation as CodedNegation}
 use Rattle.constraints.specs.declared.Constraint.{Constraint as Coded}
-use Rattle.constraints.specs.declared.Constraint.the-variants.{Member, Nonmember, Same, Different, Related, Negated, Exactly, Interval}
+use Rattle.constraints.specs.declared.Constraint.the-variants.{Member, Nonmember, Same, Different, Related, Negated, Listed}
+use Rattle.constraints.specs.declared.Entries.{Entries}
+use Rattle.constraints.specs.declared.Entries.the-variants.{Written, Interval}
 use Rattle.constraints.specs.Decoded.{relationOf, decoded}
 use Rattle.constraints.proofs.Constraint.{the-type}
-use Rattle.constraints.proofs.Decoding.{kind-here, in-range}
+use Rattle.constraints.proofs.Decoding.{kind-here, in-range, list-set}
 use Rattle.rules.specs.declared.Row.{Row}
 use Rattle.rules.specs.declared.Split.{Split}
 use Rattle.rules.specs.Spans.{Spanned}
@@ -194,11 +196,12 @@ module _ {bs : List ℕ} {i at : ℕ} (l : Coded) (d : Stands bs i at × (constr
   pub negated-needs : {k : CodedNegation} {A B C : CodedSet} {t : CodedTerm} → l ≡ Negated k A B C t → {w : ℕ} → w ≡ 2 ^ splitMark → NeedsOf own w
   negated-needs e q = rw (matched e, q) (nothing-needed (2 ^ splitMark) (omega arith) (λ j k. refl) (λ j. refl) (λ j v. bit-own splitMark))
 
-  pub exactly-needs : {A : CodedSet} → l ≡ Exactly A → {v w x : ℕ} → v ≡ 2 ^ A .0 → w ≡ 2 ^ restMark → x ≡ 2 ^ splitMark → NeedsOf own (bitOr (bitOr v w) x)
-  exactly-needs {A} e p q r = rw (matched e, p, q, r) (list-needs (A .0) (range e .0) (λ j k. refl) (λ j. refl))
+  pub listed-low : {k : Entries} {A : CodedSet} → l ≡ Listed k A → A .0 < mostSets
+  listed-low e = list-set (entriesOf own) e (range refl)
 
-  pub interval-needs : {A : CodedSet} {t u : CodedTerm} → l ≡ Interval A t u → {v w x : ℕ} → v ≡ 2 ^ A .0 → w ≡ 2 ^ restMark → x ≡ 2 ^ splitMark → NeedsOf own (bitOr (bitOr v w) x)
-  interval-needs {A} e p q r = rw (matched e, p, q, r) (list-needs (A .0) (range e .0) (λ j k. refl) (λ j. refl))
+  pub listed-needs : (k : Entries) {A : CodedSet} → l ≡ Listed k A → {v w x : ℕ} → v ≡ 2 ^ A .0 → w ≡ 2 ^ restMark → x ≡ 2 ^ splitMark → NeedsOf own (bitOr (bitOr v w) x)
+  listed-needs Written {A} e p q r = rw (matched e, p, q, r) (list-needs (A .0) (range e .0) (λ j k. refl) (λ j. refl))
+  listed-needs (Interval t u) {A} e p q r = rw (matched e, p, q, r) (list-needs (A .0) (range e .0) (λ j k. refl) (λ j. refl))
 
   module _ {k : CodedRelation} {A B C : CodedSet} (e : l ≡ Related k A B C) where
     abbrev related : Constraint
@@ -271,5 +274,4 @@ module _ {bs : List ℕ} {i at : ℕ} (l : Coded) (d : Stands bs i at × (constr
       go (Different t u) o es = absurd (miss (0 ∷ 1 ∷ 2 ∷ []) 3 tt o)
       go (Related k A B C) o es = absurd (miss (0 ∷ 1 ∷ 2 ∷ []) 4 tt o)
       go (Negated k A B C w) o es = absurd (miss (0 ∷ 1 ∷ 2 ∷ []) 5 tt o)
-      go (Exactly A) o es = absurd (miss (0 ∷ 1 ∷ 2 ∷ []) 6 tt o)
-      go (Interval A t u) o es = absurd (miss (0 ∷ 1 ∷ 2 ∷ []) 7 tt o)
+      go (Listed k A) o es = absurd (miss (0 ∷ 1 ∷ 2 ∷ []) 6 tt o)

@@ -106,8 +106,7 @@ fn needed(problem: &[u8], i: usize, at: usize, l: Constraint) -> u64
             found
         }
         Constraint::Negated(_, _, _, _, _) => bit_at(SPLIT),
-        Constraint::Exactly(a) => bit_at(a.0) | bit_at(REST) | bit_at(SPLIT),
-        Constraint::Interval(a, _, _) => bit_at(a.0) | bit_at(REST) | bit_at(SPLIT),
+        Constraint::Listed(_, a) => bit_at(a.0) | bit_at(REST) | bit_at(SPLIT),
         _ => 0,
     }
 }

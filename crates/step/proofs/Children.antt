@@ -27,7 +27,9 @@ use Rattle.places.specs.Alternatives.{slotsOf, childOf}
 use Rattle.places.proofs.Slots.{in-spans, assert-one}
 use Rattle.branch.specs.Rows.{literalCount}
 use Rattle.constraints.specs.declared.Constraint.{Constraint}
-use Rattle.constraints.specs.declared.Constraint.the-variants.{Member, Nonmember, Same as Equated, Different, Related, Negated, Exactly, Interval}
+use Rattle.constraints.specs.declared.Constraint.the-variants.{Member, Nonmember, Same as Equated, Different, Related, Negated, Listed}
+use Rattle.constraints.specs.declared.Entries.{Entries}
+use Rattle.constraints.specs.declared.Entries.the-variants.{Written, Interval}
 use Rattle.constraints.specs.declared.Relation.{Relation as CodedRelation}
 use Rattle.constraints.specs.declared.Negation.{Negation as CodedNegation}
 use Rattle.constraints.specs.declared.Negation.the-variants.{Unequal}
@@ -193,11 +195,9 @@ module _ (ps : List ℕ) (fall : Falls ps) (j h c : ℕ) (r : CodedTerm) (own : 
   pub negated-acts : (k : CodedNegation) (A B C : CodedSet) (v : CodedTerm) (x : Child) → x ≡ child (sets A B C) (literalsOf j c) → ActsFor ps (Negated k A B C v) j h c (noteOf r x)
   negated-acts Unequal A B C v x e es q P n = row-acts es q (Negated Unequal A B C v) A B C P (negated-child P n) (P .handled .in-range .0 .2) (v .0) (P .handled .in-range .1) (its-root (v .0) (P .concerns)) (λ b _. rw (negation-rule P)) x e
 
-  pub exactly-acts : ¬ (j ≡ 20) → (A : CodedSet) (x : Child) → x ≡ child (λ _. A .0) (R.In R.A ∷ []) → ActsFor ps (Exactly A) j h c (noteOf r x)
-  exactly-acts n20 A x e es q P n = entry-acts es q (Exactly A) P n A (P .handled .in-range .0) (entry-rule j (P .ruled) n20) (λ b. refl) x e
-
-  pub interval-acts : ¬ (j ≡ 20) → (A : CodedSet) (t u : CodedTerm) (x : Child) → x ≡ child (λ _. A .0) (R.In R.A ∷ []) → ActsFor ps (Interval A t u) j h c (noteOf r x)
-  interval-acts n20 A t u x e es q P n = entry-acts es q (Interval A t u) P n A (P .handled .in-range .0) (entry-rule j (P .ruled) n20) (λ b. refl) x e
+  pub listed-acts : ¬ (j ≡ 20) → (k : Entries) (A : CodedSet) (x : Child) → x ≡ child (λ _. A .0) (R.In R.A ∷ []) → ActsFor ps (Listed k A) j h c (noteOf r x)
+  listed-acts n20 Written A x e es q P n = entry-acts es q (Listed Written A) P n A (P .handled .in-range .0) (entry-rule j (P .ruled) n20) (λ b. refl) x e
+  listed-acts n20 (Interval t u) A x e es q P n = entry-acts es q (Listed (Interval t u) A) P n A (P .handled .in-range .0) (entry-rule j (P .ruled) n20) (λ b. refl) x e
 
   -- merging with a term is merging with another of its class
   pub same-acts : (t u k : CodedTerm) → k .0 ≡ rootOf ps (u .0) → ActsFor ps (Equated t u) j h c (joinOf r k)

@@ -5,7 +5,7 @@ use mathlib.Core.Bool.{not}
 use Rattle.calculus.specs.Relations.{denies}
 use Rattle.calculus.specs.Reading.{words}
 use Rattle.constraints.specs.Decoded.{relationOf, negationOf}
-use Rattle.checker.proofs.Holding.{same-set, readable, members-in, named, known-test, entries-readable, interval-entries, member-test, same-test, relates-test, negated-relates, exactly-test}
+use Rattle.checker.proofs.Holding.{same-set, readable, members-in, named, known-test, list-readable, member-test, same-test, relates-test, negated-relates, list-test}
 use Rattle.checker.proofs.holds.Statement.{statement}
 use Rattle.checker.proofs.holds.Tie as tie
 use Rattle.checker.proofs.holds.Reads as reads
@@ -131,25 +131,12 @@ enum-known-l-7 c = search needs
 members-requires-9 : tie.Need-members-requires-9
 members-requires-9 c κs =
     let q = c .before .before .before .before .before .before .before .before .pre in
-    members-in _ _ (q .0) _ _ (q .3) _ (named _ _ (q .0) _ _ (q .3) _ (q .2) _ _ (c .before .before .before .entries-of .ensures) _ (c .before .l7 .given .1) .0)
+    members-in _ _ (q .0) _ _ (q .3) _ (list-readable _ _ (q .0) _ _ (q .3) _ (q .2) _ _ (c .before .before .before .entries-of .ensures) _ _ (c .before .l7 .given .1) .0)
 
 exactly-requires : tie.Need-exactly-requires
 exactly-requires c κs =
     let q = c .before .before .before .before .before .before .before .before .before .pre in
-    entries-readable _ _ (q .0) _ _ (q .3) _ (q .2) _ _ (c .before .before .before .before .entries-of .ensures) (named _ _ (q .0) _ _ (q .3) _ (q .2) _ _ (c .before .before .before .before .entries-of .ensures) _ (c .before .before .l7 .given .1) .1)
-
-enum-known-l-8 : tie.Need-enum-known-l-8
-enum-known-l-8 c = search needs
-
-members-requires-10 : tie.Need-members-requires-10
-members-requires-10 c κs =
-    let q = c .before .before .before .before .before .before .before .before .pre in
-    members-in _ _ (q .0) _ _ (q .3) _ (named _ _ (q .0) _ _ (q .3) _ (q .2) _ _ (c .before .before .before .entries-of .ensures) _ (c .before .l8 .given .1) .0)
-
-exactly-requires-2 : tie.Need-exactly-requires-2
-exactly-requires-2 c κs =
-    let q = c .before .before .before .before .before .before .before .before .before .pre in
-    interval-entries _ _ (q .0) _ _ (q .3) _ (q .2) _ _ (c .before .before .before .before .entries-of .ensures) _ _ _ (c .before .before .l8 .given .1)
+    list-readable _ _ (q .0) _ _ (q .3) _ (q .2) _ _ (c .before .before .before .before .entries-of .ensures) _ _ (c .before .before .l7 .given .1) .1
 
 returns : tie.Need-returns
 returns c =
@@ -212,16 +199,7 @@ returns-7 c =
     let a = s .args in
     let k = c .before .before .before .l7 .given in
     known-test _ _ (q .0) _ _ (q .3) _ (q .2) _ _ (c .before .before .before .before .before .entries-of .ensures) _ (k .1) _ _
-    (exactly-test (a .problem .now) (a .tab) (a .assignment .now) (a .at) _ _ (c .before .before .before .before .before .entries-of .result .now) (k .0 .0 .0) (c .before .members9 .ensures) (c .exactly .ensures))
-
-returns-8 : tie.Need-returns-8
-returns-8 c =
-    let s = c .before .before .before .before .before .before .before .before .before .before in
-    let q = s .pre in
-    let a = s .args in
-    let k = c .before .before .before .l8 .given in
-    known-test _ _ (q .0) _ _ (q .3) _ (q .2) _ _ (c .before .before .before .before .before .entries-of .ensures) _ (k .1) _ _
-    (exactly-test (a .problem .now) (a .tab) (a .assignment .now) (a .at) _ _ (c .before .before .before .before .before .entries-of .result .now) (k .0 .0 .0) (c .before .members10 .ensures) (c .exactly2 .ensures))
+    (list-test (a .problem .now) (a .tab) (a .assignment .now) (a .at) (k .0 .0) _ _ (c .before .before .before .before .before .entries-of .result .now) (k .0 .1 .0 .0) (c .before .members9 .ensures) (c .exactly .ensures))
 
 pub holds-spec : {M : Type 1} → statement M
 holds-spec =
@@ -256,14 +234,10 @@ holds-spec =
     enum-known-l-7
     members-requires-9
     exactly-requires
-    enum-known-l-8
-    members-requires-10
-    exactly-requires-2
     returns
     returns-2
     returns-3
     returns-4
     returns-5
     returns-6
-    returns-7
-    returns-8)
+    returns-7)

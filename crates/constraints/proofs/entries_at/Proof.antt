@@ -7,98 +7,69 @@ use Rattle.constraints.proofs.Decoding as decoding
 use Rattle.constraints.proofs.entries_at.Statement.{statement}
 use Rattle.constraints.proofs.entries_at.Tie as tie
 
-enum-told : tie.Need-enum-told
-enum-told c = search needs
+-- the call's start, from where a list is known; and that, from where an interval is known
+abbrev start : tie.After-known-told → tie.Start
+start c = c .before .before .before .before .before
 
-entries-requires : tie.Need-entries-requires
-entries-requires c κs =
-    let s = c .before .before .before .before in
-    (s .pre .0, decoding.list-kind _ _ _ (s .pre .0) _ (s .pre .2) (c .enum-told .given .0 .0) (c .enum-told .given .1))
+abbrev list : tie.After-struct-known2 → tie.After-known-told
+list c = c .before .before .before .before .before
 
 returns : tie.Need-returns
 returns c =
-    let s = c .before .before .before .before .before in
-    decoding.list-unpacked _ _ _ (s .pre .0) _ (s .pre .2) (c .before .enum-told .given .0 .0) (c .before .enum-told .given .1) (c .before .before .before .before .shared-slice-known .given) _ (c .entries .ensures)
+    let s = c .before .before .before .before in
+    decoding.others-unpacked _ _ _ (s .pre .0) _ (s .pre .2) (c .before .match .keys2)
 
-enum-known-l : tie.Need-enum-known-l
-enum-known-l c = search needs
-
-cast-a : tie.Need-cast-a
-cast-a c = search needs
-
-cast-z : tie.Need-cast-z
-cast-z c = search needs
-
-sub-result : tie.Need-sub-result
-sub-result c = search needs
-
-part-result-start : tie.Need-part-result-start
-part-result-start c = search needs
-
-part-result-end : tie.Need-part-result-end
-part-result-end c = search needs
+entries-requires : tie.Need-entries-requires
+entries-requires c κs =
+    let k = c .before .before in
+    let s = start k in
+    (s .pre .0, decoding.list-kind _ _ _ (s .pre .0) _ (s .pre .2) (decoding.listed-as (k .before .l .given .1) (c .enum-told .given .1)))
 
 returns-2 : tie.Need-returns-2
 returns-2 c =
-    let s = c .before .before .before .before .before .before .before .before .before .before in
-    let l = c .before .before .before .before .before .l .given in
-    decoding.interval-empty _ _ _ (s .pre .0) _ (s .pre .2) (l .0 .0) (l .0 .1 .0) (l .0 .1 .1 .0) (l .1) (omega (arith, c .before .if1 .taken))
-
-add-e : tie.Need-add-e
-add-e c = search needs
-
-sub-result-2 : tie.Need-sub-result-2
-sub-result-2 c = search needs
-
-part-result-start-2 : tie.Need-part-result-start-2
-part-result-start-2 c = search needs
-
-part-result-end-2 : tie.Need-part-result-end-2
-part-result-end-2 c =
-    let s = c .before .before .before .before .before .before .before .before .before in
-    let l = c .before .before .before .before .l .given in
-    omega (arith, ap length (s .pre .1), decoding.interval-end _ _ _ (s .pre .0) _ (s .pre .2) (l .0 .0) (l .0 .1 .0) (l .0 .1 .1 .0) (l .1) (omega (arith, c .if1 .left)))
+    let k = c .before .before .before in
+    let s = start k in
+    decoding.list-unpacked _ _ _ (s .pre .0) _ (s .pre .2) (decoding.listed-as (k .before .l .given .1) (c .before .enum-told .given .1)) (k .before .before .before .before .shared-slice-known .given) _ (c .entries .ensures)
 
 returns-3 : tie.Need-returns-3
 returns-3 c =
-    let s = c .before .before .before .before .before .before .before .before .before .before in
-    let l = c .before .before .before .before .before .l .given in
-    decoding.interval-unpacked _ _ _ (s .pre .0) _ (s .pre .2) (l .0 .0) (l .0 .1 .0) (l .0 .1 .1 .0) (l .1) (omega (arith, c .before .if1 .left)) _ (s .args .numbers .now) (s .pre .1) refl
-
-sub-result-3 : tie.Need-sub-result-3
-sub-result-3 c = search needs
-
-part-result-start-3 : tie.Need-part-result-start-3
-part-result-start-3 c = search needs
+    let z = c .before .before in
+    let s = start (list z) in
+    decoding.interval-empty _ _ _ (s .pre .0) _ (s .pre .2) (decoding.listed-as (list z .before .l .given .1) (z .before .before .before .k .given .1)) (omega (arith, c .before .if1 .taken))
 
 part-result-end-3 : tie.Need-part-result-end-3
-part-result-end-3 c = search needs
+part-result-end-3 c =
+    let z = c .before in
+    let s = start (list z) in
+    omega (arith, ap length (s .pre .1), decoding.interval-end _ _ _ (s .pre .0) _ (s .pre .2) (decoding.listed-as (list z .before .l .given .1) (z .before .before .before .k .given .1)) (omega (arith, c .if1 .left)))
 
 returns-4 : tie.Need-returns-4
 returns-4 c =
-    let s = c .before .before .before .before .before in
-    decoding.others-unpacked _ _ _ (s .pre .0) _ (s .pre .2) (c .before .before .match .keys2) (c .before .match2 .keys2)
+    let z = c .before .before in
+    let s = start (list z) in
+    decoding.interval-unpacked _ _ _ (s .pre .0) _ (s .pre .2) (decoding.listed-as (list z .before .l .given .1) (z .before .before .before .k .given .1)) (omega (arith, c .before .if1 .left)) _ (s .args .numbers .now) (s .pre .1) refl
 
 pub entries-at-spec : {M : Type 1} → statement M
 entries-at-spec =
     tie.close
     (tie.spec
-    enum-told
-    entries-requires
+    (λ c. search needs)
+    (λ c. search needs)
+    (λ c. search needs)
+    (λ c. search needs)
     returns
-    enum-known-l
-    cast-a
-    cast-z
-    sub-result
-    part-result-start
-    part-result-end
+    (λ c. search needs)
+    (λ c. search needs)
+    entries-requires
     returns-2
-    add-e
-    sub-result-2
-    part-result-start-2
-    part-result-end-2
+    (λ c. search needs)
+    (λ c. search needs)
+    (λ c. search needs)
+    (λ c. search needs)
+    (λ c. search needs)
     returns-3
-    sub-result-3
-    part-result-start-3
+    (λ c. search needs)
+    (λ c. search needs)
+    (λ c. search needs)
     part-result-end-3
     returns-4)

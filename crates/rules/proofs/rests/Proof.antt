@@ -10,9 +10,10 @@ use borrow.Author.Needs.{needs}
 use Rattle.calculus.specs.Limits.{mostSets, mostTerms}
 use Rattle.calculus.specs.Invariants.{ConstraintIn}
 use Rattle.constraints.specs.declared.Constraint.{Constraint}
-use Rattle.constraints.specs.declared.Constraint.the-variants.{Member, Nonmember, Same, Different, Related, Negated, Exactly, Interval}
+use Rattle.constraints.specs.declared.Constraint.the-variants.{Member, Nonmember, Same, Different, Related, Negated, Listed}
 use Rattle.constraints.specs.Decoded.{decoded}
 use Rattle.constraints.proofs.Constraint.{the-type}
+use Rattle.constraints.proofs.Decoding.{list-set}
 use Rattle.rules.specs.Words.{restsBy}
 use Rattle.rules.proofs.rests.Statement.{statement}
 use Rattle.rules.proofs.rests.Tie as tie
@@ -23,9 +24,6 @@ start c = c .before .before .before .before .before
 
 abbrev start-2 : tie.After-known-told2 → tie.Start
 start-2 c = c .before .before .before .before .before
-
-abbrev start-3 : tie.After-known-told3 → tie.Start
-start-3 c = c .before .before .before .before .before
 
 -- its operands are in range
 low : {l m : Constraint} → l ≡ m → ConstraintIn mostTerms mostSets (decoded [] l) → ConstraintIn mostTerms mostSets (decoded [] m)
@@ -42,17 +40,13 @@ no-test parents rows entries split (Same t u) o = refl
 no-test parents rows entries split (Different t u) o = absurd (miss (0 ∷ 1 ∷ 2 ∷ 4 ∷ 5 ∷ []) 3 tt o)
 no-test parents rows entries split (Related k A B C) o = refl
 no-test parents rows entries split (Negated k A B C w) o = refl
-no-test parents rows entries split (Exactly A) o = absurd (miss (0 ∷ 1 ∷ 2 ∷ 4 ∷ 5 ∷ []) 6 tt o)
-no-test parents rows entries split (Interval A t u) o = absurd (miss (0 ∷ 1 ∷ 2 ∷ 4 ∷ 5 ∷ []) 7 tt o)
+no-test parents rows entries split (Listed k A) o = absurd (miss (0 ∷ 1 ∷ 2 ∷ 4 ∷ 5 ∷ []) 6 tt o)
 
 together-requires : tie.Need-together-requires
 together-requires c κs = let s = start c in let r = low (c .before .l .given .1) (s .pre .1) in (r .0, r .1, s .pre .0 .rooted)
 
 unshared-requires : tie.Need-unshared-requires
-unshared-requires c κs = let s = start-2 c in (s .pre .0 .long, low (c .before .l2 .given .1) (s .pre .1) .0)
-
-unshared-requires-2 : tie.Need-unshared-requires-2
-unshared-requires-2 c κs = let s = start-3 c in (s .pre .0 .long, low (c .before .l3 .given .1) (s .pre .1) .0)
+unshared-requires c κs = let s = start-2 c in (s .pre .0 .long, list-set [] (c .before .l2 .given .1) (s .pre .1))
 
 returns : tie.Need-returns
 returns c = by-test _ _ _ _ (c .before .before .l .given .1) (c .together .ensures) refl
@@ -61,10 +55,7 @@ returns-2 : tie.Need-returns-2
 returns-2 c = by-test _ _ _ _ (c .before .before .l2 .given .1) (c .unshared .ensures) refl
 
 returns-3 : tie.Need-returns-3
-returns-3 c = by-test _ _ _ _ (c .before .before .l3 .given .1) (c .unshared2 .ensures) refl
-
-returns-4 : tie.Need-returns-4
-returns-4 c = no-test _ _ _ _ (c .before .before .before .args .l) (c .match .keys4)
+returns-3 c = no-test _ _ _ _ (c .before .before .before .args .l) (c .match .keys3)
 
 pub rests-spec : {M : Type 1} → statement M
-rests-spec = tie.close (tie.spec (λ c. search needs) together-requires (λ c. search needs) unshared-requires (λ c. search needs) unshared-requires-2 returns returns-2 returns-3 returns-4)
+rests-spec = tie.close (tie.spec (λ c. search needs) together-requires (λ c. search needs) unshared-requires returns returns-2 returns-3)

@@ -1,11 +1,10 @@
 -- `needed` meets its contract. The loop keeps: the word has what the propagation rules before rule j need. It ends: the rules' end less j falls. Each return rests on the constraint as it was matched.
 use Prim.Native.Nat.{_-_, _^_}
 use native.Mathlib.Omega.{arith}
-use mathlib.Core.Path.{_∙_, ap}
 use borrow.Author.Needs.{needs}
 use Rattle.constraints.proofs.Decoding.{two-operands}
 use Rattle.problem.specs.Table.{constraintOf}
-use Rattle.search.proofs.Needing.{split-low, range, Before, different-needs, negated-needs, exactly-needs, interval-needs, others-need, premises-asked, needs-start, needs-next, no-split, with-split}
+use Rattle.search.proofs.Needing.{split-low, range, Before, different-needs, negated-needs, listed-low, listed-needs, others-need, premises-asked, needs-start, needs-next, no-split, with-split}
 use Rattle.search.proofs.needed.Statement.{statement}
 use Rattle.search.proofs.needed.Tie as tie
 
@@ -88,25 +87,13 @@ enum-known-l-2 : tie.Need-enum-known-l-2 Inv-loop μ-loop
 enum-known-l-2 c = search needs
 
 bit-at-requires-6 : tie.Need-bit-at-requires-6 Inv-loop μ-loop
-bit-at-requires-6 c κs = omega (arith, range _ (c .before .before .before .before .pre) (c .before .l2 .given .1) .0)
+bit-at-requires-6 c κs = omega (arith, listed-low _ (c .before .before .before .before .pre) (c .before .l2 .given .1))
 
 bit-at-requires-7 : tie.Need-bit-at-requires-7 Inv-loop μ-loop
 bit-at-requires-7 c κs = search needs
 
 bit-at-requires-8 : tie.Need-bit-at-requires-8 Inv-loop μ-loop
 bit-at-requires-8 c κs = search needs
-
-enum-known-l-3 : tie.Need-enum-known-l-3 Inv-loop μ-loop
-enum-known-l-3 c = search needs
-
-bit-at-requires-9 : tie.Need-bit-at-requires-9 Inv-loop μ-loop
-bit-at-requires-9 c κs = omega (arith, range _ (c .before .before .before .before .pre) (c .before .l3 .given .1) .0)
-
-bit-at-requires-10 : tie.Need-bit-at-requires-10 Inv-loop μ-loop
-bit-at-requires-10 c κs = search needs
-
-bit-at-requires-11 : tie.Need-bit-at-requires-11 Inv-loop μ-loop
-bit-at-requires-11 c κs = search needs
 
 returns-2 : tie.Need-returns-2 Inv-loop μ-loop
 returns-2 c = let e = c .before .before in different-needs _ (e .before .before .before .pre) (e .enum-told .given .1) (c .before .bit-at .ensures) (c .bit-at2 .ensures)
@@ -118,13 +105,10 @@ returns-4 : tie.Need-returns-4 Inv-loop μ-loop
 returns-4 c = let e = c .before in negated-needs _ (e .before .before .before .pre) (e .enum-told2 .given .1) (c .bit-at5 .ensures)
 
 returns-5 : tie.Need-returns-5 Inv-loop μ-loop
-returns-5 c = let e = c .before .before .before .before in exactly-needs _ (e .before .before .before .pre) (e .l2 .given .1) (c .before .before .bit-at6 .ensures) (c .before .bit-at7 .ensures) (c .bit-at8 .ensures)
+returns-5 c = let e = c .before .before .before .before in listed-needs _ (e .before .before .before .pre) _ (e .l2 .given .1) (c .before .before .bit-at6 .ensures) (c .before .bit-at7 .ensures) (c .bit-at8 .ensures)
 
 returns-6 : tie.Need-returns-6 Inv-loop μ-loop
-returns-6 c = let e = c .before .before .before .before in interval-needs _ (e .before .before .before .pre) (e .l3 .given .1) (c .before .before .bit-at9 .ensures) (c .before .bit-at10 .ensures) (c .bit-at11 .ensures)
-
-returns-7 : tie.Need-returns-7 Inv-loop μ-loop
-returns-7 c = let s = c .before .before in others-need (s .args .l) (s .pre) (c .match .keys6)
+returns-6 c = let s = c .before .before in others-need (s .args .l) (s .pre) (c .match .keys5)
 
 pub needed-spec : {M : Type 1} → statement M
-needed-spec = tie.close (tie.spec Inv-loop μ-loop enum-told bit-at-requires bit-at-requires-2 enum-known-l shared-slice-read-kind span-of-requires loop-holds premises-requires add-j loop-less loop-again span-of-requires-2 split-of-requires bit-at-requires-3 bit-at-requires-4 returns enum-told-2 bit-at-requires-5 enum-known-l-2 bit-at-requires-6 bit-at-requires-7 bit-at-requires-8 enum-known-l-3 bit-at-requires-9 bit-at-requires-10 bit-at-requires-11 returns-2 returns-3 returns-4 returns-5 returns-6 returns-7)
+needed-spec = tie.close (tie.spec Inv-loop μ-loop enum-told bit-at-requires bit-at-requires-2 enum-known-l shared-slice-read-kind span-of-requires loop-holds premises-requires add-j loop-less loop-again span-of-requires-2 split-of-requires bit-at-requires-3 bit-at-requires-4 returns enum-told-2 bit-at-requires-5 enum-known-l-2 bit-at-requires-6 bit-at-requires-7 bit-at-requires-8 returns-2 returns-3 returns-4 returns-5 returns-6)
