@@ -1,4 +1,4 @@
--- Document 01's order of work a second time, as relations, without fuel and without the search of Search.antt: what asserting gives, what a record shows, which place is first, which children a step leaves, what a path is, and how a run goes. Of the first telling it uses branches with what they know, roots, start and assert (Branch.antt), which Reaches and Asserts (Demands.antt) describe, and which terms are constants (Problem.antt).
+-- Document 01's order of work a second time, as relations, without fuel and without the search of Search.antt: what asserting gives, what a record shows, which place is first, which children a step leaves, what a path is, and how a run goes. Of the first telling it uses branches with what they know, roots, start and assert (Branch.antt), which Reaches and Asserts (Demands.antt) describe, how a record is read (Forms.antt), and which terms are constants (Problem.antt).
 use mathlib.Core.Path.{_≡_}
 use mathlib.Core.Logic.{_⊎_, _↔_, _≢_}
 use mathlib.Core.Bool.{true}

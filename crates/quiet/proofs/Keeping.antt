@@ -23,7 +23,7 @@ use Rattle.calculus.proofs.Sequences.{up-each, up-at, keep-each, keep-at}
 use Rattle.places.specs.Places.{RuleOf, rowOf, roots, firstAt}
 use Rattle.branch.specs.Rows.{literalCount}
 use Rattle.rules.specs.Rows.{literalNumber}
-use Rattle.rules.proofs.RowBits.{known-in, known-out, number-low}
+use Rattle.fits.proofs.RowBits.{known-in, known-out, number-low}
 use Rattle.quiet.specs.Quiet.{Idle, needs, pairs}
 use Rattle.quiet.proofs.Sayings.{Saying, literal, holds, says, literalOf, tabled, chosen, once, tabled-said, chosen-said}
 use Rattle.quiet.proofs.Growing.{Grows, Old, moved-none, free-kept, root-kept}

@@ -14,7 +14,7 @@ use Rattle.calculus.proofs.Bools.{any-map}
 use Rattle.calculus.proofs.RuleLaws.{applies-map}
 use Rattle.branch.specs.Rows as rows
 use Rattle.rules.specs.Rows.{literalNumber}
-use Rattle.rules.proofs.RowBits.{known-in, applies-at}
+use Rattle.fits.proofs.RowBits.{known-in, applies-at}
 
 pub data Saying : Type 0 where
   literal : ℕ → Saying

@@ -33,8 +33,8 @@ use Rattle.constraints.specs.declared.Constraint.{Constraint}
 use Rattle.constraints.specs.Decoded.{decoded, Unpacked}
 use Rattle.constraints.proofs.Decoding.{kind-here, constraint-in}
 use Rattle.rules.specs.Spans.{Spanned}
-use Rattle.rules.specs.Words.{Lent, EntryBits, Asked, Shown, Fits}
-use Rattle.rules.proofs.FitLaws.{entries-below}
+use Rattle.fits.specs.Words.{Lent, EntryBits, Asked, Shown, Fits}
+use Rattle.fits.proofs.FitLaws.{entries-below}
 use Rattle.quiet.specs.Quiet.{Idle, Quiet}
 use Rattle.search.specs.declared.Found.{Found}
 use Rattle.search.specs.First.{Prepared, nowhere, Finds}

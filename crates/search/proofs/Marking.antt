@@ -27,7 +27,7 @@ use Rattle.places.specs.Places.{entriesOf}
 use Rattle.branch.specs.Rows.{literalCount}
 use Rattle.constraints.specs.declared.Constraint.{Constraint}
 use Rattle.constraints.specs.Decoded.{Unpacked}
-use Rattle.rules.specs.Words.{EntryBits}
+use Rattle.fits.specs.Words.{EntryBits}
 use Rattle.quiet.specs.Quiet.{WordsOf, markCount, markWord, wordCount, pairMark, splitMark}
 use Rattle.search.specs.Marks.{NeedsOf, Marked}
 use Rattle.search.specs.Offsets.{AtOffset}

@@ -36,9 +36,9 @@ use Rattle.constraints.specs.declared.Constraint.{Constraint as Coded}
 use Rattle.constraints.specs.declared.Constraint.the-variants.{Member, Nonmember, Same, Different, Related, Negated, Listed}
 use Rattle.constraints.specs.declared.Entries.the-variants.{Written, Interval}
 use Rattle.constraints.specs.Decoded.{decoded}
-use Rattle.rules.specs.Words.{unsharedOf, restsBy, Shown}
-use Rattle.rules.proofs.RowBits.{known-in}
-use Rattle.rules.proofs.Listed.{covered}
+use Rattle.fits.specs.Words.{unsharedOf, restsBy, Shown}
+use Rattle.fits.proofs.RowBits.{known-in}
+use Rattle.fits.proofs.Listed.{covered}
 use Rattle.quiet.specs.Quiet.{Idle, Quiet, WordsOf, splitMark, markWord}
 use Rattle.quiet.proofs.Sayings.{holds, says, chosen-said}
 use Rattle.constraints.proofs.Decoding.{in-range}

@@ -39,9 +39,9 @@ use Rattle.rules.specs.declared.Row.{Row}
 use Rattle.rules.specs.declared.Split.{Split}
 use Rattle.rules.specs.Spans.{Spanned}
 use Rattle.rules.specs.Rows.{HasRow, numbered, literalNumber, head, last, laid, parted}
-use Rattle.rules.proofs.TableTests.{row-of}
-use Rattle.rules.specs.Words.{LowRow, LowSplit}
-use Rattle.rules.proofs.RowBits.{laid-low, parted-low}
+use Rattle.fits.proofs.TableTests.{row-of}
+use Rattle.fits.specs.Words.{LowRow, LowSplit}
+use Rattle.fits.proofs.RowBits.{laid-low, parted-low}
 use Rattle.quiet.specs.Quiet.{needs, pairs, pairMark, splitMark, markCount, restMark}
 use Rattle.search.specs.Marks.{RuleNeeds, NeedsOf}
 

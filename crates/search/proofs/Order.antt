@@ -23,7 +23,7 @@ use Rattle.calculus.proofs.Sequences.{up-more, up-done}
 use Rattle.problem.specs.Table.{noConstraint}
 use Rattle.places.specs.Places.{spanOf, InSpan, moveAt, positions, firstAt, offers}
 use Rattle.places.proofs.Offered.{offered}
-use Rattle.rules.proofs.Lowest.{first-map}
+use Rattle.fits.proofs.Lowest.{first-map}
 use Rattle.quiet.specs.Quiet.{Idle}
 use Rattle.search.specs.First.{firstPlace}
 

@@ -10,7 +10,7 @@ use Rattle.calculus.specs.Terms.{term}
 use Rattle.calculus.specs.Branch.{Branch}
 use Rattle.calculus.specs.Reading.{read}
 use Rattle.problem.specs.Table.{Stands, constraintsOf, noConstraint, witnessOf}
-use Rattle.rules.specs.Words.{Shown}
+use Rattle.fits.specs.Words.{Shown}
 use Rattle.quiet.specs.Quiet.{Idle}
 
 -- The turn of constraint i: it stands at its offset, and what is read of it is there.

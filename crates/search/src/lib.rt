@@ -4,10 +4,10 @@ use branch::literals_of;
 use constraints::Constraint;
 use constraints::decode_at;
 use constraints::entries_at;
+use fits::entry_bits;
+use fits::fitting;
+use fits::rests;
 use problem::Totals;
-use rules::entry_bits;
-use rules::fitting;
-use rules::rests;
 use rules::row_of;
 use rules::span_of;
 use rules::split_of;
@@ -20,7 +20,7 @@ ghost use mathlib.Core.Path.{_≡_};
 ghost use mathlib.Core.Bool.{true, _&&_};
 ghost use Prim.Native.Nat.{ℕ, _+_, _^_, _<_};
 ghost use lib.ListN.{length, getD};
-ghost use Rattle.calculus.specs.Limits.{mostSets, mostTerms};
+ghost use Rattle.calculus.specs.Limits.{mostSets, mostConstraints, mostTerms};
 ghost use Rattle.calculus.specs.Lists.{upFrom, any, bit};
 ghost use Rattle.calculus.specs.Terms.{setVar};
 ghost use Rattle.calculus.specs.Relations.{Relation};
@@ -32,7 +32,7 @@ ghost use Rattle.branch.specs.Rows.{literals, literalCount};
 ghost use Rattle.constraints.specs.Decoded.{decoded};
 ghost use Rattle.places.specs.Places.{RuleOf, entriesOf};
 ghost use Rattle.rules.specs.Rows.{HasRow};
-ghost use Rattle.rules.specs.Words.{Lent, Shown};
+ghost use Rattle.fits.specs.Words.{Lent, Shown};
 ghost use Rattle.quiet.specs.Quiet.{Quiet, WordsOf, pairMark, markCount, markWord, wordCount, restMark};
 ghost use Rattle.search.specs.Marks.{RuleNeeds, NeedsOf, Marked};
 ghost use Rattle.search.specs.Offsets.{AtOffsets, Narrows};
@@ -113,7 +113,7 @@ fn needed(problem: &[u8], i: usize, at: usize, l: Constraint) -> u64
 
 // Bit i is set in the words of some literals, and other marks, each in its own.
 fn mark(words: &mut [u64; WORDS], literals: u64, i: u8)
-    requires { ⌜ (length (now words) ≡ wordCount) × (literals < 2 ^ markCount) × (i < mostTerms) ⌝ }
+    requires { ⌜ (length (now words) ≡ wordCount) × (literals < 2 ^ markCount) × (i < mostConstraints) ⌝ }
     ensures { λ _. ⌜ Marked literals i (now (words .entry)) (now (words .exit)) ⌝ }
 {
     let one = bit_at(i);

@@ -18,7 +18,7 @@ use Rattle.branch.specs.declared.Branch.{Branch}
 use Rattle.branch.specs.Held.{held, Sound}
 use Rattle.branch.proofs.Restricting.{Among}
 use Rattle.constraints.proofs.Decoding.{stands-there}
-use Rattle.rules.specs.Words.{Lent, Shown}
+use Rattle.fits.specs.Words.{Lent, Shown}
 use Rattle.solver.specs.ComesTo.{constants, constraintsIn}
 
 module _ (bs : List ℕ) (tab : Table) (o : Opened bs tab) where

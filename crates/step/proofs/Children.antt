@@ -39,10 +39,10 @@ use Rattle.constraints.specs.Decoded.{relationOf, decoded, Handled}
 use Rattle.rules.specs.declared.Literal.{Literal as Lit}
 use Rattle.rules.specs.declared.Child.{Child}
 use Rattle.rules.specs.Rows.{numbered, literalsOf, countOf, sets, child, only, HasChild}
-use Rattle.rules.specs.Words.{LowChild}
+use Rattle.fits.specs.Words.{LowChild}
 use Rattle.rules.proofs.Laying.{few, row-counts}
-use Rattle.rules.proofs.TableTests.{row-of}
-use Rattle.rules.proofs.FitLaws.{entries-below, root-own}
+use Rattle.fits.proofs.TableTests.{row-of}
+use Rattle.fits.proofs.FitLaws.{entries-below, root-own}
 use Rattle.step.specs.declared.Act.{Act}
 use Rattle.step.specs.declared.Act.the-variants.{Close}
 use Rattle.step.specs.Acts.{listsOf, noteOf, joinOf, Placed, Somewhere, Acts, ActsFor}

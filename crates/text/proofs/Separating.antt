@@ -9,7 +9,6 @@ use lib.ListN.{length, length-append}
 use lib.Dec.{ltb}
 use lib.IntN.{ℤ, pos, negsuc}
 use borrow.Author.Tests.{eq-eqb, ne-eqb}
-use Rattle.calculus.specs.Limits.{mostConstraints}
 use Rattle.calculus.specs.Lists.{gather, Each}
 use Rattle.text.specs.Text.{digits, decimal, number, separated, led}
 
@@ -37,7 +36,7 @@ separated-more c start (x ∷ xs) y e =
 
 pub decimal-long : (n : ℕ) → 1 ≤ length (decimal n)
 unfolding decimal
-decimal-long n = omega (arith, length-append (cond (ltb n 10) [] (digits n (n / 10))) ((mostConstraints + n % 10) ∷ []))
+decimal-long n = omega (arith, length-append (cond (ltb n 10) [] (digits n (n / 10))) ((48 + n % 10) ∷ []))
 
 pub number-long : (z : ℤ) → 1 ≤ length (number z)
 number-long (pos n) = decimal-long n

@@ -7,7 +7,6 @@ use native.Mathlib.Omega.{arith}
 use native.Mathlib.Decide.{decLt}
 use lib.ListN.{length, length-append}
 use borrow.Author.Tests.{lt-ltb, le-ltb}
-use Rattle.calculus.specs.Limits.{mostConstraints}
 use Rattle.calculus.specs.Reading.{signed}
 use Rattle.calculus.specs.Calls.{over}
 use Rattle.slices.proofs.Buffers.{put-length, put-nothing, put-first, put-after}
@@ -37,15 +36,15 @@ digits-same (suc f) (suc g) n l m = go (decLt n 10) (digits-same f g (n / 10))
   where
     go : Dec (n < 10) → (n / 10 < f → n / 10 < g → digits f (n / 10) ≡ digits g (n / 10)) → digits (suc f) n ≡ digits (suc g) n
     go (yes q) h = rw (lt-ltb n 10 q) refl
-    go (no q) h = rw (le-ltb n 10 (omega arith)) (ap (λ (x : List ℕ). x ++ ((mostConstraints + n % 10) ∷ [])) (h (omega arith) (omega arith)))
+    go (no q) h = rw (le-ltb n 10 (omega arith)) (ap (λ (x : List ℕ). x ++ ((48 + n % 10) ∷ [])) (h (omega arith) (omega arith)))
 
-pub decimal-one : (n : ℕ) → n < 10 → decimal n ≡ (mostConstraints + n % 10) ∷ []
+pub decimal-one : (n : ℕ) → n < 10 → decimal n ≡ (48 + n % 10) ∷ []
 unfolding decimal
 decimal-one n l = rw (lt-ltb n 10 l) refl
 
-pub decimal-more : (n : ℕ) → 10 ≤ n → decimal n ≡ decimal (n / 10) ++ ((mostConstraints + n % 10) ∷ [])
+pub decimal-more : (n : ℕ) → 10 ≤ n → decimal n ≡ decimal (n / 10) ++ ((48 + n % 10) ∷ [])
 unfolding decimal
-decimal-more n l = rw (le-ltb n 10 l) (ap (λ (x : List ℕ). x ++ ((mostConstraints + n % 10) ∷ [])) (digits-same n (suc (n / 10)) (n / 10) (omega arith) (omega arith)))
+decimal-more n l = rw (le-ltb n 10 l) (ap (λ (x : List ℕ). x ++ ((48 + n % 10) ∷ [])) (digits-same n (suc (n / 10)) (n / 10) (omega arith) (omega arith)))
 
 pub decimal-length : (k n : ℕ) → n < 10 ^ suc k → length (decimal n) ≤ suc k
 decimal-length zero n l = rw (decimal-one n (omega (arith, l, pow-suc 10 0, pow-zero 10))) (omega arith)
@@ -53,7 +52,7 @@ decimal-length (suc k) n l = go (decLt n 10) (decimal-length k (n / 10))
   where
     go : Dec (n < 10) → (n / 10 < 10 ^ suc k → length (decimal (n / 10)) ≤ suc k) → length (decimal n) ≤ suc (suc k)
     go (yes q) h = rw (decimal-one n q) (omega arith)
-    go (no q) h = rw (decimal-more n (omega arith)) (omega (arith, length-append (decimal (n / 10)) ((mostConstraints + n % 10) ∷ []), h (omega (arith, l, pow-suc 10 (suc k)))))
+    go (no q) h = rw (decimal-more n (omega arith)) (omega (arith, length-append (decimal (n / 10)) ((48 + n % 10) ∷ []), h (omega (arith, l, pow-suc 10 (suc k)))))
 
 -- ---- the number of a two-byte word
 

@@ -6,14 +6,13 @@ use Prim.Native.Nat.{ℕ, zero, suc, _+_, _*_, _-_, _/_, _%_, _≤_}
 use lib.ListN.{length, getD}
 use lib.Dec.{ltb, eqb}
 use lib.IntN.{ℤ, pos, negsuc}
-use Rattle.calculus.specs.Limits.{mostConstraints}
 use Rattle.calculus.specs.Lists.{gather, Each}
 use Rattle.slices.specs.Bytes.{putAt}
 
 -- the decimal digits of n, the most significant first; fuel above n is enough
 abbrev pub digits : ℕ → ℕ → List ℕ
 digits zero n = []
-digits (suc fuel) n = cond (ltb n 10) [] (digits fuel (n / 10)) ++ ((mostConstraints + n % 10) ∷ [])
+digits (suc fuel) n = cond (ltb n 10) [] (digits fuel (n / 10)) ++ ((48 + n % 10) ∷ [])
 
 unfoldable pub decimal : ℕ → List ℕ
 decimal n = digits (suc n) n
@@ -21,11 +20,11 @@ decimal n = digits (suc n) n
 -- what digits are worth after those that are worth n
 abbrev pub worth : ℕ → List ℕ → ℕ
 worth n [] = n
-worth n (d ∷ ds) = worth (10 * n + (d - mostConstraints)) ds
+worth n (d ∷ ds) = worth (10 * n + (d - 48)) ds
 
 -- Decimal digits read back as their number, they are digits, and only the number 0 begins with a 0: its text is that one digit.
 abbrev pub ReadsBack : Type 0
-ReadsBack = (n : ℕ) → (worth 0 (decimal n) ≡ n) × Each (λ d. (mostConstraints ≤ d) × (d ≤ 57)) (decimal n) × (getD (decimal n) 0 mostConstraints ≡ mostConstraints → decimal n ≡ mostConstraints ∷ [])
+ReadsBack = (n : ℕ) → (worth 0 (decimal n) ≡ n) × Each (λ d. (48 ≤ d) × (d ≤ 57)) (decimal n) × (getD (decimal n) 0 48 ≡ 48 → decimal n ≡ 48 ∷ [])
 
 -- a minus sign first if negative
 abbrev pub number : ℤ → List ℕ

@@ -3,7 +3,7 @@ use Prim.Native.Nat.{_-_}
 use native.Mathlib.Omega.{arith}
 use lib.ListN.{length-set}
 use borrow.Author.Needs.{needs}
-use Rattle.rules.proofs.FitLaws.{entries-below}
+use Rattle.fits.proofs.FitLaws.{entries-below}
 use Rattle.search.specs.Offsets.{AtOffset}
 use Rattle.search.proofs.Offsets.{turn-of}
 use Rattle.search.proofs.Marking.{Filled, fill-start, fill-next, fill-end}

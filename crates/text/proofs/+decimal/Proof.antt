@@ -3,7 +3,6 @@ use borrow.Author.Needs.{needs}
 use mathlib.Core.Path.{ap}
 use native.Mathlib.Omega.{arith}
 use lib.ListN.{length, length-append}
-use Rattle.calculus.specs.Limits.{mostConstraints}
 use Rattle.text.specs.Text.{decimal as written}
 use Rattle.text.proofs.Texts.{wrote-length, wrote-more, decimal-one, decimal-more}
 use mathlib.Core.List.{_∷_, []}
@@ -95,7 +94,7 @@ decimal-decimal-requires t c κs =
     let s = c .before .before .before in
     let n = s .args .n in
     let e = ap length (decimal-more n (omega arith)) in
-    (omega arith, omega (arith, s .pre .1, e, length-append (written (n / 10)) ((mostConstraints + n % 10) ∷ [])))
+    (omega arith, omega (arith, s .pre .1, e, length-append (written (n / 10)) ((48 + n % 10) ∷ [])))
 
 -- src/lib.rt:28:9
 decimal-slice-aggregate-say-2 : (t : ℕ) → decimal-lts.Need-slice-aggregate-say-2 (
@@ -118,7 +117,7 @@ decimal-say-requires-2 t c κs =
     let n = s .args .n in
     let e = ap length (decimal-more n (omega arith)) in
     let w = c .before .before .before .before .decimal .ensures in
-    omega (arith, s .pre .1, e, length-append (written (n / 10)) ((mostConstraints + n % 10) ∷ []), w .ends, wrote-length w (omega (arith, s .pre .1, e, length-append (written (n / 10)) ((mostConstraints + n % 10) ∷ []))))
+    omega (arith, s .pre .1, e, length-append (written (n / 10)) ((48 + n % 10) ∷ []), w .ends, wrote-length w (omega (arith, s .pre .1, e, length-append (written (n / 10)) ((48 + n % 10) ∷ []))))
 
 -- src/lib.rt:19:1
 decimal-same-length-2 : (t : ℕ) → decimal-lts.Need-same-length-2 (

@@ -1,0 +1,5 @@
+pub mod Listed
+pub mod TableTests
+pub mod Lowest
+pub mod RowBits
+pub mod FitLaws
