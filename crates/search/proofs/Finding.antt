@@ -39,8 +39,8 @@ use Rattle.quiet.specs.Quiet.{Idle, Quiet}
 use Rattle.search.specs.declared.Found.{Found}
 use Rattle.search.specs.First.{Prepared, nowhere, Finds}
 use Rattle.search.proofs.Order.{position-hit, position-miss, positions-done, positions-from, first-offer, no-place, place-at}
-use Rattle.search.specs.Offsets.{AtOffset}
-use Rattle.search.proofs.Offsets.{turn-of, entries-by}
+use Rattle.marks.specs.Offsets.{AtOffset}
+use Rattle.marks.proofs.Offsets.{turn-of, entries-by}
 
 -- ---- rules of a constraint
 

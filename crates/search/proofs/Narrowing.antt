@@ -42,7 +42,8 @@ use Rattle.fits.proofs.Listed.{covered}
 use Rattle.quiet.specs.Quiet.{Idle, Quiet, WordsOf, splitMark, markWord}
 use Rattle.quiet.proofs.Sayings.{holds, says, chosen-said}
 use Rattle.constraints.proofs.Decoding.{in-range}
-use Rattle.search.specs.Offsets.{AtOffset, Narrows}
+use Rattle.marks.specs.Offsets.{AtOffset}
+use Rattle.search.specs.Narrowed.{Narrows}
 
 -- ---- constraints that are idle
 

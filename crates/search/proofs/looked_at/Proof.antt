@@ -8,7 +8,7 @@ use Rattle.calculus.specs.Limits.{mostSets, mostTerms}
 use Rattle.calculus.specs.Invariants.{ConstraintIn}
 use Rattle.bits.proofs.Count.{less-lt}
 use Rattle.constraints.proofs.Decoding.{in-range}
-use Rattle.search.specs.Offsets.{AtOffset}
+use Rattle.marks.specs.Offsets.{AtOffset}
 use Rattle.search.proofs.Narrowing.{Begins, Dropping, rest-idle, unlisted-in, begins-all, begins-splits, narrows-from, drop-start, lowest-in, drop-none, drop-one}
 use Rattle.search.proofs.looked_at.Statement.{statement}
 use Rattle.search.proofs.looked_at.Tie as tie

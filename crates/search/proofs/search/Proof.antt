@@ -6,8 +6,8 @@ use lib.Count.{trailingZeros}
 use borrow.Author.Needs.{needs}
 use Rattle.bits.proofs.Count.{lowest-lt, less-lt}
 use Rattle.search.proofs.Narrowing.{quiet-within}
-use Rattle.search.specs.Offsets.{AtOffset}
-use Rattle.search.proofs.Offsets.{turn-of, few-terms}
+use Rattle.marks.specs.Offsets.{AtOffset}
+use Rattle.marks.proofs.Offsets.{turn-of, few-terms}
 use Rattle.search.proofs.Finding.{AtMask, AtRule, AtRoot, search-start, in-table, search-over, no-rules, rules-start, next-constraint, asked, no-roots, roots-start, next-rule, next-root, search-hit}
 use Rattle.search.proofs.search.Statement.{statement}
 use Rattle.search.proofs.search.Tie as tie

@@ -29,9 +29,9 @@ use Rattle.constraints.specs.declared.Constraint.{Constraint}
 use Rattle.constraints.specs.Decoded.{Unpacked}
 use Rattle.fits.specs.Words.{EntryBits}
 use Rattle.quiet.specs.Quiet.{WordsOf, markCount, markWord, wordCount, pairMark, splitMark}
-use Rattle.search.specs.Marks.{NeedsOf, Marked}
-use Rattle.search.specs.Offsets.{AtOffset}
-use Rattle.search.proofs.Offsets.{entries-by}
+use Rattle.marks.specs.Marks.{NeedsOf, Marked}
+use Rattle.marks.specs.Offsets.{AtOffset}
+use Rattle.marks.proofs.Offsets.{entries-by}
 
 -- ---- marking
 

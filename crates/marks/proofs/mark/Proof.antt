@@ -5,9 +5,9 @@ use lib.Count.{trailingZeros}
 use borrow.Author.Needs.{needs}
 use Rattle.quiet.specs.Quiet.{markCount}
 use Rattle.bits.proofs.Count.{less-lt}
-use Rattle.search.proofs.Marking.{Marking, mark-start, mark-end, low-lt, mark-next}
-use Rattle.search.proofs.mark.Statement.{statement}
-use Rattle.search.proofs.mark.Tie as tie
+use Rattle.marks.proofs.Marking.{Marking, mark-start, mark-end, low-lt, mark-next}
+use Rattle.marks.proofs.mark.Statement.{statement}
+use Rattle.marks.proofs.mark.Tie as tie
 
 abbrev Inv-loop : tie.InvT-loop
 Inv-loop words₀ literals i one left₀ words left = Marking literals i words₀ words left

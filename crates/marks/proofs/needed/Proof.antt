@@ -4,9 +4,9 @@ use native.Mathlib.Omega.{arith}
 use borrow.Author.Needs.{needs}
 use Rattle.constraints.proofs.Decoding.{two-operands}
 use Rattle.problem.specs.Table.{constraintOf}
-use Rattle.search.proofs.Needing.{split-low, range, Before, different-needs, negated-needs, listed-low, listed-needs, others-need, premises-asked, needs-start, needs-next, no-split, with-split}
-use Rattle.search.proofs.needed.Statement.{statement}
-use Rattle.search.proofs.needed.Tie as tie
+use Rattle.marks.proofs.Needing.{split-low, range, Before, different-needs, negated-needs, listed-low, listed-needs, others-need, premises-asked, needs-start, needs-next, no-split, with-split}
+use Rattle.marks.proofs.needed.Statement.{statement}
+use Rattle.marks.proofs.needed.Tie as tie
 
 abbrev Inv-loop : tie.InvT-loop
 Inv-loop problem i at a b c kind end found₀ j₀ found j = Before (constraintOf problem i) j found

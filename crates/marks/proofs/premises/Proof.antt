@@ -3,9 +3,9 @@ use Prim.Native.Nat.{_<_}
 use native.Mathlib.Omega.{arith}
 use borrow.Author.Needs.{needs}
 use Rattle.calculus.specs.Limits.{mostSets}
-use Rattle.search.proofs.Needing.{row-low, one-premise, two-premises}
-use Rattle.search.proofs.premises.Statement.{statement}
-use Rattle.search.proofs.premises.Tie as tie
+use Rattle.marks.proofs.Needing.{row-low, one-premise, two-premises}
+use Rattle.marks.proofs.premises.Statement.{statement}
+use Rattle.marks.proofs.premises.Tie as tie
 
 -- the call's start, from where the rule is laid out
 abbrev start : tie.After-row-of → tie.Start

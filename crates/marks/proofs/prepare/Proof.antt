@@ -4,11 +4,11 @@ use native.Mathlib.Omega.{arith}
 use lib.ListN.{length-set}
 use borrow.Author.Needs.{needs}
 use Rattle.fits.proofs.FitLaws.{entries-below}
-use Rattle.search.specs.Offsets.{AtOffset}
-use Rattle.search.proofs.Offsets.{turn-of}
-use Rattle.search.proofs.Marking.{Filled, fill-start, fill-next, fill-end}
-use Rattle.search.proofs.prepare.Statement.{statement}
-use Rattle.search.proofs.prepare.Tie as tie
+use Rattle.marks.specs.Offsets.{AtOffset}
+use Rattle.marks.proofs.Offsets.{turn-of}
+use Rattle.marks.proofs.Marking.{Filled, fill-start, fill-next, fill-end}
+use Rattle.marks.proofs.prepare.Statement.{statement}
+use Rattle.marks.proofs.prepare.Tie as tie
 
 abbrev Inv-loop : tie.InvT-loop
 Inv-loop problem numbers offsets witnesses words₀ count i₀ words i = Filled problem words i

@@ -5,9 +5,9 @@ use lib.Count.{trailingZeros}
 use borrow.Author.Needs.{needs}
 use Rattle.branch.specs.Rows.{literals, literalCount}
 use Rattle.bits.proofs.Count.{lowest-lt, less-lt}
-use Rattle.search.proofs.Marking.{Gathering, gather-start, gather-next, gather-end}
-use Rattle.search.proofs.woken.Statement.{statement}
-use Rattle.search.proofs.woken.Tie as tie
+use Rattle.marks.proofs.Marking.{Gathering, gather-start, gather-next, gather-end}
+use Rattle.marks.proofs.woken.Statement.{statement}
+use Rattle.marks.proofs.woken.Tie as tie
 
 abbrev Inv-loop : tie.InvT-loop
 Inv-loop words ins outs found₀ left₀ found left = Gathering words (literals ins outs) found left

@@ -18,7 +18,7 @@ use Rattle.places.specs.Places.{entriesOf}
 use Rattle.constraints.specs.declared.Constraint.{Constraint}
 use Rattle.constraints.specs.Decoded.{Unpacked}
 use Rattle.constraints.proofs.Decoding.{stands-there, two-operands}
-use Rattle.search.specs.Offsets.{AtOffset}
+use Rattle.marks.specs.Offsets.{AtOffset}
 
 pub turn-of : {bs : List ℕ} {t : Totals} {offsets witnesses : List ℕ} {i : ℕ} → Tabled bs t offsets witnesses → i < t .constraints → AtOffset bs offsets witnesses i
 turn-of {bs} {t} {offsets} {witnesses} {i} d l =

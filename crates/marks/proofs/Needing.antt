@@ -43,7 +43,7 @@ use Rattle.fits.proofs.TableTests.{row-of}
 use Rattle.fits.specs.Words.{LowRow, LowSplit}
 use Rattle.fits.proofs.RowBits.{laid-low, parted-low}
 use Rattle.quiet.specs.Quiet.{needs, pairs, pairMark, splitMark, markCount, restMark}
-use Rattle.search.specs.Marks.{RuleNeeds, NeedsOf}
+use Rattle.marks.specs.Marks.{RuleNeeds, NeedsOf}
 
 -- ---- bits of a word
 
