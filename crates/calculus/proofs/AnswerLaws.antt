@@ -17,7 +17,7 @@ use Rattle.calculus.specs.Reading.{Parsed, parsed, refused, _>>=_, ask, 
 use Rattle.calculus.specs.Check.{readAssignment, assignmentOf, lowest}
 use Rattle.calculus.specs.Encoding.{Handed}
 use Rattle.calculus.specs.Calls.{Verdict, FORMS, FALSE, SPENT, NOROOM, Answer, refusal, ended, asked, call, pack, verdictNumber, answerWord, Checked, declined, HOLDS, FAILS, checkedBy, check, checkWord}
-use Rattle.calculus.specs.Order.{StepOf, Progress, Works, all-worked, none-listed, listing, no-room, spending, closing, stepping}
+use Rattle.calculus.specs.Order.{StepOf, Progress, Works, all-worked, none-listed, form-listed, no-room, spending, closing, stepping}
 use Rattle.calculus.specs.Demands.{Unpacks, Answers}
 use Rattle.calculus.proofs.Bools.{Each-app, Each-imp, Each-map}
 use Rattle.calculus.proofs.Asserting.{WellFormed}
@@ -53,7 +53,7 @@ module _ (prob : Problem) (acc : Valid prob) (budget room : ℕ) where
       → e .forms + suc N * s .steps ≤ (s .forms + length left) + suc N * e .steps
   few-more left g s e v ps (all-worked h) = omega arith
   few-more left g s e v ps (none-listed h) = omega arith
-  few-more left g s e v ps (listing {left = rest} {ps = qs} _ _ _ _ w) = omega (arith, few-more rest (g .1) _ e v qs w)
+  few-more left g s e v ps (form-listed {left = rest} {ps = qs} _ _ _ _ w) = omega (arith, few-more rest (g .1) _ e v qs w)
   few-more left g s e v ps (no-room _ _ _ _) = omega arith
   few-more left g s e v ps (spending _ _ _) = omega arith
   few-more left g s e v ps (closing {left = rest} {ps = qs} _ _ _ w) = omega (arith, few-more rest (g .1) _ e v qs w, mul-suc (suc N) (s .steps))

@@ -10,7 +10,7 @@ use Rattle.calculus.specs.Branch.{Branch}
 use Rattle.calculus.specs.Search.{step}
 use Rattle.calculus.specs.Problem.{Problem, termCount}
 use Rattle.calculus.specs.Calls.{Verdict, FORMS, FALSE, SPENT, NOROOM}
-use Rattle.calculus.specs.Order.{Recorded, Solved, StepOf, Progress, withForm, withStep, Works, all-worked, none-listed, listing, no-room, spending, closing, stepping}
+use Rattle.calculus.specs.Order.{Recorded, Solved, StepOf, Progress, withForm, withStep, Works, all-worked, none-listed, form-listed, no-room, spending, closing, stepping}
 use Rattle.calculus.specs.Demands.{OneWay}
 use Rattle.calculus.proofs.FirstPlace.{first-place}
 use Rattle.calculus.proofs.RecordLaws.{records}
@@ -34,26 +34,26 @@ module _ (prob : Problem) (budget room : ℕ) where
     one-record r q x y = sym (records (termCount prob) b r .0 x) ∙ records (termCount prob) b q .0 y
 
   module _ (b : Branch) (d : ℕ) (left : List (ℕ × Branch)) (s : Progress) where
-    if-listing : Solved prob b → (r : List ℕ) → Recorded (termCount prob) b r → length (s .records) + length r ≤ room → (v : Verdict) (e : Progress) (ps : List ℕ)
+    if-form-listed : Solved prob b → (r : List ℕ) → Recorded (termCount prob) b r → length (s .records) + length r ≤ room → (v : Verdict) (e : Progress) (ps : List ℕ)
         → ((w : Verdict) (f : Progress) (qs : List ℕ) → Works prob budget room left (withForm s r) w f qs → Same v w e f ps qs)
         → (w : Verdict) (f : Progress) (qs : List ℕ) → Works prob budget room ((d, b) ∷ left) s w f qs → Same v w e f (d ∷ ps) qs
-    if-listing h r x l v e ps ih w f qs (listing {ps = rs} {r = q} p k y m g) =
+    if-form-listed h r x l v e ps ih w f qs (form-listed {ps = rs} {r = q} p k y m g) =
         let z = ih w f rs (subst (λ (t : List ℕ). Works prob budget room left (withForm s t) w f rs) (one-record b q r y x) g) in
         (z .0, z .1, ap (λ (t : List ℕ). d ∷ t) (z .2))
-    if-listing h r x l v e ps ih w f qs (no-room {r = q} p k y m) = absurd (omega (arith, ap (length {A = ℕ}) (one-record b q r y x)))
-    if-listing h r x l v e ps ih w f qs (spending {r = q} {cs = cs} p k m) = not-both b h q cs k
-    if-listing h r x l v e ps ih w f qs (closing {r = q} p k m g) = not-both b h q [] k
-    if-listing h r x l v e ps ih w f qs (stepping {c = c} {cs = cs} {r = q} p k m g) = not-both b h q (c ∷ cs) k
+    if-form-listed h r x l v e ps ih w f qs (no-room {r = q} p k y m) = absurd (omega (arith, ap (length {A = ℕ}) (one-record b q r y x)))
+    if-form-listed h r x l v e ps ih w f qs (spending {r = q} {cs = cs} p k m) = not-both b h q cs k
+    if-form-listed h r x l v e ps ih w f qs (closing {r = q} p k m g) = not-both b h q [] k
+    if-form-listed h r x l v e ps ih w f qs (stepping {c = c} {cs = cs} {r = q} p k m g) = not-both b h q (c ∷ cs) k
 
     if-no-room : Solved prob b → (r : List ℕ) → Recorded (termCount prob) b r → room < length (s .records) + length r → (w : Verdict) (f : Progress) (qs : List ℕ) → Works prob budget room ((d, b) ∷ left) s w f qs → Same NOROOM w s f (d ∷ []) qs
-    if-no-room h r x l w f qs (listing {r = q} p k y m g) = absurd (omega (arith, ap (length {A = ℕ}) (one-record b q r y x)))
+    if-no-room h r x l w f qs (form-listed {r = q} p k y m g) = absurd (omega (arith, ap (length {A = ℕ}) (one-record b q r y x)))
     if-no-room h r x l w f qs (no-room p k y m) = (refl, refl, refl)
     if-no-room h r x l w f qs (spending {r = q} {cs = cs} p k m) = not-both b h q cs k
     if-no-room h r x l w f qs (closing {r = q} p k m g) = not-both b h q [] k
     if-no-room h r x l w f qs (stepping {c = c} {cs = cs} {r = q} p k m g) = not-both b h q (c ∷ cs) k
 
     if-spending : (r : List ℕ) (cs : List Branch) → StepOf prob b r cs → s .steps ≡ budget → (w : Verdict) (f : Progress) (qs : List ℕ) → Works prob budget room ((d, b) ∷ left) s w f qs → Same SPENT w s f (d ∷ []) qs
-    if-spending r cs h l w f qs (listing p k y m g) = not-both b k r cs h
+    if-spending r cs h l w f qs (form-listed p k y m g) = not-both b k r cs h
     if-spending r cs h l w f qs (no-room p k y m) = not-both b k r cs h
     if-spending r cs h l w f qs (spending p k m) = (refl, refl, refl)
     if-spending r cs h l w f qs (closing p k m g) = absurd (m l)
@@ -62,7 +62,7 @@ module _ (prob : Problem) (budget room : ℕ) where
     if-closing : (r : List ℕ) → StepOf prob b r [] → s .steps ≢ budget → (v : Verdict) (e : Progress) (ps : List ℕ)
         → ((w : Verdict) (f : Progress) (qs : List ℕ) → Works prob budget room left (withStep s r) w f qs → Same v w e f ps qs)
         → (w : Verdict) (f : Progress) (qs : List ℕ) → Works prob budget room ((d, b) ∷ left) s w f qs → Same v w e f (suc d ∷ ps) qs
-    if-closing r h l v e ps ih w f qs (listing p k y m g) = not-both b k r [] h
+    if-closing r h l v e ps ih w f qs (form-listed p k y m g) = not-both b k r [] h
     if-closing r h l v e ps ih w f qs (no-room p k y m) = not-both b k r [] h
     if-closing r h l v e ps ih w f qs (spending p k m) = absurd (l m)
     if-closing r h l v e ps ih w f qs (closing {ps = rs} {r = q} p k m g) =
@@ -73,7 +73,7 @@ module _ (prob : Problem) (budget room : ℕ) where
     if-stepping : (r : List ℕ) (c : Branch) (cs : List Branch) → StepOf prob b r (c ∷ cs) → s .steps ≢ budget → (v : Verdict) (e : Progress) (ps : List ℕ)
         → ((w : Verdict) (f : Progress) (qs : List ℕ) → Works prob budget room (map (λ x. (suc d, x)) (c ∷ cs) ++ left) (withStep s r) w f qs → Same v w e f ps qs)
         → (w : Verdict) (f : Progress) (qs : List ℕ) → Works prob budget room ((d, b) ∷ left) s w f qs → Same v w e f ps qs
-    if-stepping r c cs h l v e ps ih w f qs (listing p k y m g) = not-both b k r (c ∷ cs) h
+    if-stepping r c cs h l v e ps ih w f qs (form-listed p k y m g) = not-both b k r (c ∷ cs) h
     if-stepping r c cs h l v e ps ih w f qs (no-room p k y m) = not-both b k r (c ∷ cs) h
     if-stepping r c cs h l v e ps ih w f qs (spending p k m) = absurd (l m)
     if-stepping r c cs h l v e ps ih w f qs (closing {r = q} p k m g) = nil-cons (one-step b q r [] (c ∷ cs) k h .1)
@@ -93,7 +93,7 @@ module _ (prob : Problem) (budget room : ℕ) where
   only : (left : List (ℕ × Branch)) (s : Progress) (v : Verdict) (e : Progress) (ps : List ℕ) → Works prob budget room left s v e ps → (w : Verdict) (f : Progress) (qs : List ℕ) → Works prob budget room left s w f qs → Same v w e f ps qs
   only left s v e ps (all-worked p) = if-model s p
   only left s v e ps (none-listed p) = if-none s p
-  only left s v e ps (listing {d = d} {b = b} {left = rest} {ps = rs} {r = r} _ h x l g) = if-listing b d rest s h r x l v e rs (only rest (withForm s r) v e rs g)
+  only left s v e ps (form-listed {d = d} {b = b} {left = rest} {ps = rs} {r = r} _ h x l g) = if-form-listed b d rest s h r x l v e rs (only rest (withForm s r) v e rs g)
   only left s v e ps (no-room {d = d} {b = b} {left = rest} {r = r} _ h x l) = if-no-room b d rest s h r x l
   only left s v e ps (spending {d = d} {b = b} {left = rest} {r = r} {cs = cs} _ h l) = if-spending b d rest s r cs h l
   only left s v e ps (closing {d = d} {b = b} {left = rest} {ps = rs} {r = r} _ h l g) = if-closing b d rest s r h l v e rs (only rest (withStep s r) v e rs g)

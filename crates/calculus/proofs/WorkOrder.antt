@@ -19,7 +19,7 @@ use Rattle.calculus.specs.Forms.{recordOf}
 use Rattle.calculus.specs.Run as R
 use Rattle.calculus.specs.Reading.{parsed, read}
 use Rattle.calculus.specs.Calls.{Verdict, FORMS, FALSE, SPENT, NOROOM, verdictOf}
-use Rattle.calculus.specs.Order.{PathTo, begin, onward, Progress, unbegun, withForm, withStep, Works, all-worked, none-listed, listing, no-room, spending, closing, stepping}
+use Rattle.calculus.specs.Order.{PathTo, begin, onward, Progress, unbegun, withForm, withStep, Works, all-worked, none-listed, form-listed, no-room, spending, closing, stepping}
 use Rattle.calculus.specs.Demands.{ShortPaths}
 use Rattle.calculus.proofs.Bools.{Each-imp}
 use Rattle.calculus.proofs.Asserting.{WellFormed}
@@ -133,7 +133,7 @@ module _ (prob : Problem) (acc : Valid prob) (budget room : ℕ) where
           let f : suc (s .forms) + u .forms ≡ s .forms + suc (u .forms) = omega arith in
           rw (t, tally) (
             d ∷ i .0,
-            listing {s = s} (a .path) (first-place prob b .0 .0 e) (records (termCount prob) b r .1 refl) (omega (arith, fits)) (moved left (withForm s r) (verdictOf (u .end) (suc (s .forms) + u .forms)) (verdictOf (u .end) (s .forms + suc (u .forms))) (plus (withForm s r) u) (plus s (listForm r u)) (i .0)
+            form-listed {s = s} (a .path) (first-place prob b .0 .0 e) (records (termCount prob) b r .1 refl) (omega (arith, fits)) (moved left (withForm s r) (verdictOf (u .end) (suc (s .forms) + u .forms)) (verdictOf (u .end) (s .forms + suc (u .forms))) (plus (withForm s r) u) (plus s (listForm r u)) (i .0)
                 (ap (verdictOf (u .end)) f) (done-is refl f (append-assoc (s .records) r (u .records)) refl) (i .1)),
             (omega (arith, a .short), i .2),
           )

@@ -186,7 +186,7 @@ module _ (prob : Problem) (budget room : ℕ) where
     all-worked : {s : Progress} → s .forms ≢ 0 → Works [] s FORMS s []
     none-listed : {s : Progress} → s .forms ≡ 0 → Works [] s FALSE s []
     -- a form first: its record fits what is left of the form buffer, or not
-    listing : {d : ℕ} {b : Branch} {left : List (ℕ × Branch)} {s e : Progress} {v : Verdict} {ps r : List ℕ} → PathTo prob d b → Solved prob b → Recorded (termCount prob) b r → length (s .records) + length r ≤ room
+    form-listed : {d : ℕ} {b : Branch} {left : List (ℕ × Branch)} {s e : Progress} {v : Verdict} {ps r : List ℕ} → PathTo prob d b → Solved prob b → Recorded (termCount prob) b r → length (s .records) + length r ≤ room
         → Works left (withForm s r) v e ps → Works ((d, b) ∷ left) s v e (d ∷ ps)
     no-room : {d : ℕ} {b : Branch} {left : List (ℕ × Branch)} {s : Progress} {r : List ℕ} → PathTo prob d b → Solved prob b → Recorded (termCount prob) b r → room < length (s .records) + length r → Works ((d, b) ∷ left) s NOROOM s (d ∷ [])
     -- otherwise, if steps equal the budget

@@ -13,7 +13,7 @@ use Rattle.calculus.specs.Branch.{Branch, start, assert, rootAt, inside, outsid
 use Rattle.calculus.specs.Search.{solved, step, next}
 use Rattle.calculus.specs.Run.{nextOf}
 use Rattle.calculus.specs.Calls.{Verdict, FORMS, SPENT, NOROOM}
-use Rattle.calculus.specs.Order.{Recorded, Solved, StepOf, PathTo, begin, onward, Progress, unbegun, withForm, withStep, Works, all-worked, listing, no-room, spending, closing, stepping}
+use Rattle.calculus.specs.Order.{Recorded, Solved, StepOf, PathTo, begin, onward, Progress, unbegun, withForm, withStep, Works, all-worked, form-listed, no-room, spending, closing, stepping}
 use Rattle.calculus.proofs.FirstPlace.{first-place}
 use Rattle.calculus.proofs.RecordLaws.{records}
 
@@ -113,7 +113,7 @@ first-steps budget room v e ps l w =
 pub run : Works c1 5 9 ((0, b₀) ∷ []) unbegun FORMS (record { steps = 5; forms = 1; records = form; trace = 1 ∷ 0 ∷ 2 ∷ 1 ∷ 19 ∷ 1 ∷ 0 ∷ 1 ∷ 19 ∷ 1 ∷ 1 ∷ 1 ∷ 20 ∷ 1 ∷ 2 ∷ 2 ∷ 4 ∷ 2 ∷ 0 ∷ 0 ∷ [] }) (5 ∷ 4 ∷ [])
 run = first-steps 5 9 _ _ _ (omega arith)
     (closing {s = s₄} (onward path₃ step₄ (here refl)) step₅ (λ e. omega (arith, e))
-    (listing {s = s₅} path-to-form is-form its-record (omega arith)
+    (form-listed {s = s₅} path-to-form is-form its-record (omega arith)
     (all-worked {s = withForm s₅ form} (λ e. omega (arith, e)))))
 
 -- C2: SPENT in the split's first child, 4 steps from the start

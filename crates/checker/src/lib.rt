@@ -6,7 +6,7 @@ use constraints::Relation;
 use constraints::decode;
 use constraints::entries_of;
 use problem::Table;
-use slices::numbers;
+use slices::term_numbers;
 use slices::word;
 use terms::Term;
 ghost use mathlib.Core.Path.{_≡_};
@@ -178,7 +178,7 @@ pub fn lowest(problem: &[u8], tab: Table, assignment: &[u8], at: Layout) -> u8
     requires { ⌜ Opened (now problem) tab × Fitting tab (now assignment) at ⌝ }
     ensures { λ r. ⌜ (lowest (seen (now (problem .entry)) tab (now (assignment .entry)) at) 0 (constraintsOf (read (now (problem .entry)))) ≡ failing (tab .constraints) r) × (r ≤ tab .constraints) ⌝ }
 {
-    let numbers = numbers();
+    let numbers = term_numbers();
     let count = tab.constraints;
     for i in 0..count {
         if !holds(problem, &numbers, tab, assignment, at, i as usize) {

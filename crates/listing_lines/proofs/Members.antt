@@ -15,7 +15,7 @@ use Rattle.calculus.specs.Forms.{modelNumber, model}
 use Rattle.text.specs.Text.{number, separated, braces, led, Wrote}
 use Rattle.text.proofs.Texts.{wrote-more}
 use Rattle.text.proofs.Separating.{separated-more, all-long}
-use Rattle.listing_lines.specs.Writing.{inside, memberText}
+use Rattle.listing_lines.specs.Writing.{insideAt, memberText}
 
 up-more : (s n : ℕ) → upFrom s (suc n) ≡ upFrom s n ++ ((s + n) ∷ [])
 up-more s zero = rw (add-zero s) refl
@@ -29,18 +29,18 @@ keep-append p (x ∷ xs) ys = go (p x) (keep-append p xs ys)
     go true e = ap (λ (l : List Term). x ∷ l) e
     go false e = e
 
-pub no-member : (prob : Problem) (r : List ℕ) (A t start end : ℕ) → inside r A t ≡ false → memberText prob r A t start end ≡ []
+pub no-member : (prob : Problem) (r : List ℕ) (A t start end : ℕ) → insideAt r A t ≡ false → memberText prob r A t start end ≡ []
 unfolding memberText
 no-member prob r A t start end e = rw e refl
 
-pub a-member : (prob : Problem) (r : List ℕ) (A t start end : ℕ) → inside r A t ≡ true → memberText prob r A t start end ≡ led 44 start end ++ number (modelNumber prob r (term t))
+pub a-member : (prob : Problem) (r : List ℕ) (A t start end : ℕ) → insideAt r A t ≡ true → memberText prob r A t start end ≡ led 44 start end ++ number (modelNumber prob r (term t))
 unfolding memberText
 a-member prob r A t start end e = rw e refl
 
 module _ (prob : Problem) (r : List ℕ) (A : ℕ) where
   -- the members among the first terms, and their text
   abbrev pub firstMembers : ℕ → List ℤ
-  firstMembers t = map (modelNumber prob r) (keep (λ (u : Term). inside r A (u .index)) (termsFrom 0 t))
+  firstMembers t = map (modelNumber prob r) (keep (λ (u : Term). insideAt r A (u .index)) (termsFrom 0 t))
 
   unfoldable pub membersText : ℕ → List ℕ
   membersText t = separated 44 (map number (firstMembers t))
@@ -53,14 +53,14 @@ module _ (prob : Problem) (r : List ℕ) (A : ℕ) where
   unfolding membersText
   all-members = refl
 
-  one-more : (t : ℕ) → firstMembers (suc t) ≡ firstMembers t ++ cond (inside r A t) (modelNumber prob r (term t) ∷ []) []
+  one-more : (t : ℕ) → firstMembers (suc t) ≡ firstMembers t ++ cond (insideAt r A t) (modelNumber prob r (term t) ∷ []) []
   one-more t =
-      let p : Term → Bool = λ (u : Term). inside r A (u .index) in
+      let p : Term → Bool = λ (u : Term). insideAt r A (u .index) in
       let e : termsFrom 0 (suc t) ≡ termsFrom 0 t ++ (term t ∷ []) = ap (map term) (up-more 0 t ∙ ap (λ (k : ℕ). upFrom 0 t ++ (k ∷ [])) (zero-add t)) ∙ map-append term (upFrom 0 t) (t ∷ []) in
       ap (λ (l : List Term). map (modelNumber prob r) (keep p l)) e
       ∙ ap (map (modelNumber prob r)) (keep-append p (termsFrom 0 t) (term t ∷ []))
       ∙ map-append (modelNumber prob r) (keep p (termsFrom 0 t)) (keep p (term t ∷ []))
-      ∙ go (inside r A t)
+      ∙ go (insideAt r A t)
     where
       go : (b : Bool) → firstMembers t ++ map (modelNumber prob r) (cond b (term t ∷ []) []) ≡ firstMembers t ++ cond b (modelNumber prob r (term t) ∷ []) []
       go true = refl
@@ -69,7 +69,7 @@ module _ (prob : Problem) (r : List ℕ) (A : ℕ) where
   pub members-more : (t start : ℕ) → membersText (suc t) ≡ membersText t ++ memberText prob r A t start (start + length (membersText t))
   unfolding membersText memberText
   members-more t start =
-      ap (λ (l : List ℤ). separated 44 (map number l)) (one-more t) ∙ go (inside r A t)
+      ap (λ (l : List ℤ). separated 44 (map number l)) (one-more t) ∙ go (insideAt r A t)
     where
       go : (b : Bool) → separated 44 (map number (firstMembers t ++ cond b (modelNumber prob r (term t) ∷ []) [])) ≡ separated 44 (map number (firstMembers t)) ++ cond b (led 44 start (start + length (separated 44 (map number (firstMembers t)))) ++ number (modelNumber prob r (term t))) []
       go true = ap (separated 44) (map-append number (firstMembers t) (modelNumber prob r (term t) ∷ [])) ∙ separated-more 44 start (map number (firstMembers t)) (number (modelNumber prob r (term t))) (all-long (firstMembers t))

@@ -24,7 +24,7 @@ use Rattle.slices.specs.Bytes.{bytesAt}
 use Rattle.problem.specs.declared.Table.{Table}
 use Rattle.problem.specs.Table.{problemTable, Opened, constantOf, valuesOf}
 use Rattle.problem.proofs.Access.{opened, opened-sizes, constant-read}
-use Rattle.listing_lines.specs.Writing.{problemOf, problemIn, Shaped, inside}
+use Rattle.listing_lines.specs.Writing.{problemOf, problemIn, Shaped, insideAt}
 
 -- ---- the problem
 
@@ -111,8 +111,8 @@ module _ (bs : List ℕ) (tab : Table) (o : Opened bs tab) (r : List ℕ) (form 
 
 -- whether the class of root t is in a set
 module _ (r : List ℕ) (A t : ℕ) where
-  pub no-root : ¬ (rootIn r t ≡ t) → inside r A t ≡ false
+  pub no-root : ¬ (rootIn r t ≡ t) → insideAt r A t ≡ false
   no-root n = rw (ne-eqb (rootIn r t) t n) refl
 
-  pub a-root : rootIn r t ≡ t → inside r A t ≡ bit (insideIn r t) A
+  pub a-root : rootIn r t ≡ t → insideAt r A t ≡ bit (insideIn r t) A
   a-root e = rw (eq-eqb (rootIn r t) t e) refl

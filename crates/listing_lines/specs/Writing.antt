@@ -28,12 +28,12 @@ pub record Shaped (prob : Problem) (r : List ℕ) : Type 0 where
   pub valued : Valued prob r
 
 -- term number t is a root, and its class is known to be in set number A
-abbrev pub inside : List ℕ → ℕ → ℕ → Bool
-inside r A t = rootInside r (setVar A) (term t)
+abbrev pub insideAt : List ℕ → ℕ → ℕ → Bool
+insideAt r A t = rootInside r (setVar A) (term t)
 
 -- what term t adds to the members of set number A, a comma before it unless it is the first
 unfoldable pub memberText : Problem → List ℕ → (A t start end : ℕ) → List ℕ
-memberText prob r A t start end = cond (inside r A t) (led 44 start end ++ number (modelNumber prob r (term t))) []
+memberText prob r A t start end = cond (insideAt r A t) (led 44 start end ++ number (modelNumber prob r (term t))) []
 
 -- item k of a form's line, letter, equals sign and value: the variables, then the sets
 abbrev pub itemAt : Problem → List ℕ → ℕ → List ℕ

@@ -18,7 +18,7 @@ ghost use Rattle.calculus.specs.Forms.{recordLength, modelNumber, model};
 ghost use Rattle.problem.specs.Table.{Opened};
 ghost use Rattle.text.specs.Text.{braces, Wrote};
 ghost use Rattle.listing_lines.specs.Listing.{formLine};
-ghost use Rattle.listing_lines.specs.Writing.{Shaped, problemIn, inside, memberText, itemAt};
+ghost use Rattle.listing_lines.specs.Writing.{Shaped, problemIn, insideAt, memberText, itemAt};
 
 // The value of term t in the model.
 fn value(problem: &[u8], tab: Table, form: &[u8], t: usize) -> u16
@@ -35,7 +35,7 @@ fn value(problem: &[u8], tab: Table, form: &[u8], t: usize) -> u16
 // Whether the class of root t is known to be in a set.
 fn is_inside(form: &[u8], t: usize, set: u8) -> bool
     requires { ⌜ (t < mostTerms) × (recordLength (suc t) ≤ length (now form)) × (set < mostSets) ⌝ }
-    ensures { λ r. ⌜ r ≡ inside (now (form .entry)) set t ⌝ }
+    ensures { λ r. ⌜ r ≡ insideAt (now (form .entry)) set t ⌝ }
 {
     if root_in(form, t) != t {
         return false;
@@ -44,7 +44,7 @@ fn is_inside(form: &[u8], t: usize, set: u8) -> bool
 }
 
 // The member of a set that term t stands for, if any, a comma before it unless it is the first.
-fn member(
+fn member_text(
     problem: &[u8],
     tab: Table,
     form: &[u8],
@@ -65,7 +65,14 @@ fn member(
 }
 
 // The members of a set.
-fn members(problem: &[u8], tab: Table, form: &[u8], set: u8, text: &mut [u8], at: usize) -> usize
+fn members_text(
+    problem: &[u8],
+    tab: Table,
+    form: &[u8],
+    set: u8,
+    text: &mut [u8],
+    at: usize,
+) -> usize
     requires { ⌜ Opened (now problem) tab × Shaped (problemIn (now problem)) (now form) × (set < mostSets) × (at + 450 ≤ length (now text)) ⌝ }
     ensures { λ r. ⌜ Wrote (now (text .entry)) at (braces (model (problemIn (now (problem .entry))) (now (form .entry)) .members (setVar set))) r (now (text .exit)) × (r ≤ at + 450) ⌝ }
 {
@@ -73,7 +80,7 @@ fn members(problem: &[u8], tab: Table, form: &[u8], set: u8, text: &mut [u8], at
     let mut end = start;
     let terms = tab.terms as usize;
     for t in 0..terms {
-        end = member(problem, tab, form, set, t, text, start, end);
+        end = member_text(problem, tab, form, set, t, text, start, end);
     }
     say(b"}", text, end)
 }
@@ -93,7 +100,7 @@ fn item(problem: &[u8], tab: Table, form: &[u8], k: usize, text: &mut [u8], at: 
     }
     let name = [problem[3 + 2 * constants + k], b'='];
     let end = say(&name, text, at);
-    members(problem, tab, form, (k - variables) as u8, text, end)
+    members_text(problem, tab, form, (k - variables) as u8, text, end)
 }
 
 // The line of a solved form.

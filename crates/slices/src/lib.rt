@@ -55,7 +55,7 @@ pub fn put(bytes: &[u8], buffer: &mut [u8], at: usize)
 }
 
 // The numbers of all terms, upward from 0.
-pub fn numbers() -> [u8; MOST_TERMS]
+pub fn term_numbers() -> [u8; MOST_TERMS]
     ensures { λ r. ⌜ r ≡ upFrom 0 mostTerms ⌝ }
 {
     let mut list = [0u8; MOST_TERMS];

@@ -14,7 +14,7 @@ use records::write_step;
 use search::Found;
 use search::Scope;
 use search::search;
-use slices::numbers;
+use slices::term_numbers;
 use step::Act;
 use step::act_of;
 use step::child_at;
@@ -285,7 +285,7 @@ pub fn solve(
     ensures { λ r. ⌜ Runs (now (problem .entry)) budget (now (forms .entry)) (now (trace .entry)) (state r (now (forms .exit)) (now (trace .exit))) ⌝ }
 {
     let b = Branch::start(tab.constants);
-    let numbers = numbers();
+    let numbers = term_numbers();
     let offsets = tab.offsets;
     let witnesses = tab.witnesses;
     let totals = Totals {

@@ -25,11 +25,11 @@ Inv-loop problem tab assignment at numbers count i₀ i =
 abbrev μ-loop : tie.MeasureT-loop
 μ-loop problem tab assignment at numbers count i₀ i = count - i
 
-numbers-requires : tie.Need-numbers-requires Inv-loop μ-loop
-numbers-requires c κs = search needs
+term-numbers-requires : tie.Need-term-numbers-requires Inv-loop μ-loop
+term-numbers-requires c κs = search needs
 
 loop-holds : tie.Need-loop-holds Inv-loop μ-loop
-loop-holds c = (omega arith, refl, c .numbers .ensures)
+loop-holds c = (omega arith, refl, c .term-numbers .ensures)
 
 slice-aggregate-holds : tie.Need-slice-aggregate-holds Inv-loop μ-loop
 slice-aggregate-holds c = sym (ap length (c .before .before .loop .inv .2))
@@ -61,7 +61,7 @@ lowest-spec =
     (tie.spec
     Inv-loop
     μ-loop
-    numbers-requires
+    term-numbers-requires
     loop-holds
     slice-aggregate-holds
     cast-holds

@@ -85,7 +85,7 @@ abbrev calls-work : ℕ → work-lts.Claims
 calls-work t =
     (search-reads.Asked, search-reads.Learnt, act-of-reads.Asked, act-of-reads.Learnt, note-reads.Asked, note-reads.Learnt, merge-reads.Asked, merge-reads.Learnt, write-step-reads.Asked, write-step-reads.Learnt, wakes-reads.Asked, wakes-reads.Learnt, list-form-reads.Asked, list-form-reads.Learnt, entries-at-reads.Asked, entries-at-reads.Learnt, kept-reads.Asked, kept-reads.Learnt, child-count-reads.Asked, child-count-reads.Learnt, children-below t, children.Post)
 
--- ---- the children's places: the start before the entries were listed; the listing, the slots and the loop's turn before a child
+-- ---- the children's places: the start before the entries were lent; the entries, the slots and the loop's turn before a child
 
 abbrev start : (t : ℕ) → children-lts.After-entries-at (calls-children t) (children-at t) children.Post children-Inv-loop children-μ-loop → children-lts.Start (calls-children t) (children-at t) children.Post children-Inv-loop children-μ-loop
 start t c = c .before .before .before .before .before .before .before .before .before .before .before .before .before .before

@@ -18,8 +18,8 @@ entry c = c .before .before .before .before
 start-requires : tie.Need-start-requires
 start-requires c κs = let o = c .before .before .before .pre .0 in omega (arith, constants-few _ _ o, terms-few _ _ o)
 
-numbers-requires : tie.Need-numbers-requires
-numbers-requires c κs = search needs
+term-numbers-requires : tie.Need-term-numbers-requires
+term-numbers-requires c κs = search needs
 
 slice-aggregate-prepare : tie.Need-slice-aggregate-prepare
 slice-aggregate-prepare c = search needs
@@ -31,7 +31,7 @@ slice-aggregate-prepare-3 : tie.Need-slice-aggregate-prepare-3
 slice-aggregate-prepare-3 c = search needs
 
 prepare-requires : tie.Need-prepare-requires
-prepare-requires c κs = let b = c .before .before .before .before .before in (record { opened = entry (b .before) .pre .0; sized = sym (slice-aggregate-prepare-2 (c .before)); sized-witnesses = sym (slice-aggregate-prepare-3 c) }, b .numbers .ensures)
+prepare-requires c κs = let b = c .before .before .before .before .before in (record { opened = entry (b .before) .pre .0; sized = sym (slice-aggregate-prepare-2 (c .before)); sized-witnesses = sym (slice-aggregate-prepare-3 c) }, b .term-numbers .ensures)
 
 low-bits-requires : tie.Need-low-bits-requires
 low-bits-requires c κs = omega (arith, opened-sizes _ _ (c .before .before .before .before .before .before .before .before .before .before .before .pre .0) .0)
@@ -52,7 +52,7 @@ work-requires : tie.Need-work-requires
 work-requires c κs =
     let b = c .before .before .before .before .before .before .before .before .before .before .before .before .before in
     let p = entry (b .before) .pre in (
-      record { tabled = record { opened = p .0; sized = sym (slice-aggregate-prepare-2 (c .before .before .before .before .before .before .before .before .before)); sized-witnesses = sym (slice-aggregate-prepare-3 (c .before .before .before .before .before .before .before .before)) }; numbers-are = b .numbers .ensures; words-are = c .before .before .before .before .before .before .before .prepare .ensures },
+      record { tabled = record { opened = p .0; sized = sym (slice-aggregate-prepare-2 (c .before .before .before .before .before .before .before .before .before)); sized-witnesses = sym (slice-aggregate-prepare-3 (c .before .before .before .before .before .before .before .before)) }; numbers-are = b .term-numbers .ensures; words-are = c .before .before .before .before .before .before .before .prepare .ensures },
       all-ready (p .0) (start-sound _ _ (b .before .start .ensures)) (c .before .before .before .before .before .before .low-bits .ensures),
       record { on = refl; fine = begun-fine _ _ _ _ (p .1) (p .2); no-terms = λ _. refl },
     )
@@ -74,7 +74,7 @@ solve-spec =
     tie.close
     (tie.spec
     start-requires
-    numbers-requires
+    term-numbers-requires
     slice-aggregate-prepare
     slice-aggregate-prepare-2
     slice-aggregate-prepare-3

@@ -75,8 +75,8 @@ say-requires-2 c κs = search needs
 cast-members : tie.Need-cast-members
 cast-members c = search needs
 
-members-requires : tie.Need-members-requires
-members-requires c κs =
+members-text-requires : tie.Need-members-text-requires
+members-text-requires c κs =
     let s = c .before .before .before .before .before .before .before .before .before .before .before .before .before in
     let x = c .before .before .before .say2 .ensures in
     let k = known (s .args .problem .now) (s .args .tab) (s .pre .0) in
@@ -89,7 +89,7 @@ returns-2 : tie.Need-returns-2
 returns-2 c =
     let s = c .before .before .before .before .before .before .before .before .before .before .before .before .before .before .before .before in
     let x = c .before .before .before .before .before .before .say2 .ensures in
-    let w = c .before .before .members .ensures in
+    let w = c .before .before .members-text .ensures in
     (rw (set-is (c .before .before .before .before .before .before .before .before .before .before .before .before .before .before .before .before .args .problem .now) (c .before .before .before .before .before .before .before .before .before .before .before .before .before .before .before .before .args .tab) (c .before .before .before .before .before .before .before .before .before .before .before .before .before .before .before .before .pre .0) (c .before .before .before .before .before .before .before .before .before .before .before .before .before .before .before .before .args .form .now) (c .before .before .before .before .before .before .before .before .before .before .before .before .before .before .before .before .args .k) (omega arith) (s .pre .2)) (wrote-more (omega (arith, s .pre .3)) x (w .0)), omega (arith, x .ends, w .1))
 
 pub item-spec : {M : Type 1} → statement M
@@ -116,6 +116,6 @@ item-spec =
     slice-aggregate-say-2
     say-requires-2
     cast-members
-    members-requires
+    members-text-requires
     same-length-2
     returns-2)

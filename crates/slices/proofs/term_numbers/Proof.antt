@@ -1,4 +1,4 @@
--- `numbers` meets its contract. The loop keeps: the first t entries are their own places, and zeros follow.
+-- `term_numbers` meets its contract. The loop keeps: the first t entries are their own places, and zeros follow.
 use mathlib.Core.Path.{_≡_, refl, ap, _∙_}
 use mathlib.Core.List.{List}
 use Prim.Native.Nat.{ℕ, _≤_, _-_}
@@ -6,8 +6,8 @@ use native.Mathlib.Omega.{arith}
 use lib.ListN.{set}
 use Rattle.calculus.specs.Limits.{mostTerms}
 use Rattle.slices.proofs.Counting.{counted, count-more, count-done}
-use Rattle.slices.proofs.numbers.Statement.{statement}
-use Rattle.slices.proofs.numbers.Tie as tie
+use Rattle.slices.proofs.term_numbers.Statement.{statement}
+use Rattle.slices.proofs.term_numbers.Tie as tie
 
 abbrev Inv-loop : tie.InvT-loop
 Inv-loop list₀ t₀ list t = (t ≤ mostTerms) × (list ≡ counted mostTerms t)
@@ -36,8 +36,8 @@ loop-again c = (omega arith, ap (λ (l : List ℕ). set l (c .before .loop .t) (
 returns : tie.Need-returns Inv-loop μ-loop
 returns c = c .before .loop .inv .1 ∙ count-done mostTerms (c .before .loop .t) (omega arith) (omega arith)
 
-pub numbers-spec : {M : Type 1} → statement M
-numbers-spec =
+pub term-numbers-spec : {M : Type 1} → statement M
+term-numbers-spec =
     tie.close
     (tie.spec
     Inv-loop

@@ -1,4 +1,4 @@
--- `member` meets its contract: nothing for a term that is not inside, else the number right after what `lead` wrote.
+-- `member_text` meets its contract: nothing for a term that is not inside, else the number right after what `lead` wrote.
 use mathlib.Core.Path.{sym, _∙_}
 use native.Mathlib.Omega.{arith}
 use borrow.Author.Tests.{not-true, not-false}
@@ -6,8 +6,8 @@ use Rattle.listing_lines.proofs.Members.{no-member, a-member}
 use Rattle.listing_lines.proofs.Values.{term-there}
 use Rattle.text.proofs.Texts.{wrote-nothing, wrote-more}
 use borrow.Author.Needs.{needs}
-use Rattle.listing_lines.proofs.form.member.Statement.{statement}
-use Rattle.listing_lines.proofs.form.member.Tie as tie
+use Rattle.listing_lines.proofs.form.member_text.Statement.{statement}
+use Rattle.listing_lines.proofs.form.member_text.Tie as tie
 
 is-inside-requires : tie.Need-is-inside-requires
 is-inside-requires c κs =
@@ -41,8 +41,8 @@ returns-2 c =
     let w = c .before .before .number .ensures in
     (rw (a-member _ (a .form .now) (a .set) (a .t) (a .start) (a .end) (sym (c .before .before .before .before .before .before .before .before .before .before .is-inside .ensures) ∙ not-false _ (c .before .before .before .before .before .before .before .before .before .if1 .left)), sym (c .before .before .before .before .value .ensures)) (wrote-more (omega (arith, s .pre)) (v .0) (w .0)), omega (arith, v .1, w .1))
 
-pub member-spec : {M : Type 1} → statement M
-member-spec =
+pub member-text-spec : {M : Type 1} → statement M
+member-text-spec =
     tie.close
     (tie.spec
     is-inside-requires

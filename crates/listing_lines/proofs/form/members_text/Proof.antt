@@ -1,4 +1,4 @@
--- `members` meets its contract. The loop keeps: the members among the first t terms are written, in at most 7 bytes each, so there is room. It ends: terms less t falls. The return rests on t being the number of terms.
+-- `members_text` meets its contract. The loop keeps: the members among the first t terms are written, in at most 7 bytes each, so there is room. It ends: terms less t falls. The return rests on t being the number of terms.
 use borrow.Author.Needs.{needs}
 use mathlib.Core.Path.{_≡_, refl, _∙_}
 use Prim.Native.Nat.{_+_, _*_, _-_, _≤_}
@@ -10,8 +10,8 @@ use Rattle.listing_lines.specs.Writing.{problemIn}
 use Rattle.text.proofs.Texts.{wrote-nothing, wrote-length, wrote-more}
 use Rattle.listing_lines.proofs.Members.{membersText, no-members, all-members, member-step}
 use Rattle.listing_lines.proofs.Values.{known}
-use Rattle.listing_lines.proofs.form.members.Statement.{statement}
-use Rattle.listing_lines.proofs.form.members.Tie as tie
+use Rattle.listing_lines.proofs.form.members_text.Statement.{statement}
+use Rattle.listing_lines.proofs.form.members_text.Tie as tie
 
 abbrev Inv-loop : tie.InvT-loop
 Inv-loop problem tab form set text₀ at start end₀ terms t₀ t12 text end t = (t ≤ terms) × (length text ≡ length text₀) × (end ≤ start + 7 * t) × Wrote text₀ start (membersText (problemIn problem) form set t) end text
@@ -33,8 +33,8 @@ loop-holds c =
     let s = c .before .before .before .before .before .before .before .before .before in
     (omega arith, refl, omega arith, rw (no-members (problemIn (s .args .problem .now)) (s .args .form .now) (s .args .set)) (wrote-nothing _ _))
 
-member-requires : tie.Need-member-requires Inv-loop μ-loop
-member-requires c κs =
+member-text-requires : tie.Need-member-text-requires Inv-loop μ-loop
+member-text-requires c κs =
     let s = c .before .before .before .before .before .before .before .before .before .before .before .before in
     let v = c .before .before .loop .inv in
     let w = c .before .before .before .before .before .before .say .ensures in
@@ -53,7 +53,7 @@ loop-again c =
     let s = c .before .before .before .before .before .before .before .before .before .before .before .before .before .before .before in
     let v = c .before .before .before .before .before .loop .inv in
     let x = c .before .before .before .before .before .before .before .before .before .say .ensures in
-    let w = c .before .before .member .ensures in
+    let w = c .before .before .member-text .ensures in
     let k = known (s .args .problem .now) (s .args .tab) (s .pre .0) .few-terms in
     let l = wrote-length x (omega (arith, s .pre .3)) in (
       omega arith,
@@ -88,8 +88,8 @@ returns c =
     let e : c .before .before .before .before .before .before .loop .t ≡ termCount (problemIn (s .args .problem .now)) = omega (arith, k .terms) in
     (rw (all-members (problemIn (s .args .problem .now)) (s .args .form .now) (s .args .set), ← e) (wrote-more (omega (arith, s .pre .3)) x (wrote-more (omega (arith, s .pre .3, x .ends, l)) (v .3) w)), omega (arith, w .ends, v .2, x .ends, k .few-terms))
 
-pub members-spec : {M : Type 1} → statement M
-members-spec =
+pub members-text-spec : {M : Type 1} → statement M
+members-text-spec =
     tie.close
     (tie.spec
     Inv-loop
@@ -98,7 +98,7 @@ members-spec =
     say-requires
     cast-terms
     loop-holds
-    member-requires
+    member-text-requires
     add-t
     loop-less
     loop-again
