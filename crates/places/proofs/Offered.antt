@@ -9,7 +9,6 @@ use native.Mathlib.Omega.{arith}
 use lib.ListN.{length, getD}
 use lib.Dec.{eqb}
 use borrow.Author.Tests.{eqb-true, eq-eqb, ne-eqb}
-use Rattle.calculus.specs.Limits.{mostSets, mostTerms}
 use Rattle.calculus.specs.Lists.{upFrom, keep, first, gather, Each}
 use Rattle.calculus.specs.Terms.{Term, SetVar, term}
 use Rattle.calculus.specs.Relations.{Rule, Literal, Relation, equal, union, disjoint, subset, intersection, Operand, applies, propagation, propagationRows, splitRows, negationRow, operandOf}
@@ -168,15 +167,15 @@ module _ (n : ℕ) (b : Branch) where
       root-positions (interval A x y es) j c e = list-roots A es j e
 
 -- where rule j of a constraint is found to apply, if it is not rule 19: a root, and the one concerned
-pub position-root : (n : ℕ) (b : Branch) (l : Constraint) (j p : ℕ) → Falls (b .parents) → n ≤ mostTerms → ConstraintIn mostTerms mostSets l → j ≢ 19 → firstAt n b l j ≡ some p → (p < mostTerms) × (rootAt b p ≡ p) × (moveAt b l j p .0 ≡ term p)
-position-root n b l j p fall le c e f =
-    first-some (λ q. (q < mostTerms) × (rootAt b q ≡ q) × (moveAt b l j q .0 ≡ term q)) (λ q. applies (known b) (moveAt b l j q .1)) (positions n b l j) p (root-positions n b fall mostTerms mostSets le l j c e) f .0
+pub position-root : (N m n : ℕ) (b : Branch) (l : Constraint) (j p : ℕ) → Falls (b .parents) → n ≤ N → ConstraintIn N m l → j ≢ 19 → firstAt n b l j ≡ some p → (p < N) × (rootAt b p ≡ p) × (moveAt b l j p .0 ≡ term p)
+position-root N m n b l j p fall le c e f =
+    first-some (λ q. (q < N) × (rootAt b q ≡ q) × (moveAt b l j q .0 ≡ term q)) (λ q. applies (known b) (moveAt b l j q .1)) (positions n b l j) p (root-positions n b fall N m le l j c e) f .0
 
 -- in general: of rule 19 the number of an entry, of any other a term number, that of the root concerned
-pub position-of : (n : ℕ) (b : Branch) (l : Constraint) (j p : ℕ) → Falls (b .parents) → n ≤ mostTerms → ConstraintIn mostTerms mostSets l → RuleOf l j
+pub position-of : (N m n : ℕ) (b : Branch) (l : Constraint) (j p : ℕ) → Falls (b .parents) → n ≤ N → ConstraintIn N m l → RuleOf l j
     → first (λ (q : ℕ). applies (known b) (moveAt b l j q .1)) (positions n b l j) ≡ some p
-    → (j ≡ 19 → p < length (entriesOf l)) × (¬ (j ≡ 19) → (p < mostTerms) × (moveAt b l j p .0 ≡ term p))
-position-of n b l j p fall le c r f = (
+    → (j ≡ 19 → p < length (entriesOf l)) × (¬ (j ≡ 19) → (p < N) × (moveAt b l j p .0 ≡ term p))
+position-of N m n b l j p fall le c r f = (
   λ e. first-some (λ q. q < length (entriesOf l)) (λ q. applies (known b) (moveAt b l j q .1)) (positions n b l j) p (entry-positions n b l j r e) f .0,
-  λ e. let w = position-root n b l j p fall le c e f in (w .0, w .2),
+  λ e. let w = position-root N m n b l j p fall le c e f in (w .0, w .2),
 )

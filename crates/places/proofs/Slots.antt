@@ -8,7 +8,6 @@ use native.Mathlib.Omega.{arith}
 use native.Mathlib.Decide.{ℕ-discrete}
 use lib.ListN.{length}
 use borrow.Author.Tests.{eq-eqb, ne-eqb}
-use Rattle.calculus.specs.Limits.{mostSets, mostTerms}
 use Rattle.calculus.specs.Lists.{upFrom, picked, Each, Some}
 use Rattle.calculus.specs.Terms.{Term, SetVar, term}
 use Rattle.calculus.specs.Relations.{Rule, Literal, Operand, Relation, equal, union, disjoint, subset, intersection, unequal, negationRow, operandOf}
@@ -134,9 +133,9 @@ module _ (n m : ℕ) where
         go (some y) u ih = rw (u, picked) (asserts-fit n constants m g (i .0) b F y u .0, ih)
 
 -- a child of a sound branch is sound
-pub child-fit : (constants : List Term) (b : Branch) (l : Constraint) (j p c : ℕ) (d : Branch) → WellFormed mostTerms constants b → ConstraintIn mostTerms mostSets l → RuleOf l j → (j ≡ 19 → p < length (entriesOf l)) → (¬ (j ≡ 19) → p < mostTerms) → c < slotsOf l j → childOf constants b l j p c ≡ some d → WellFormed mostTerms constants d
-child-fit constants b l j p c d F i r x y h e =
-    some-each (WellFormed mostTerms constants) d (children constants b (moveAt b l j p .1)) (picked-fit mostTerms mostSets constants b F (moveAt b l j p .1 .alternatives) (alternatives-in mostTerms mostSets constants b F l j p i r x y)) (child-among constants b l j p c d r h e)
+pub child-fit : (n m : ℕ) (constants : List Term) (b : Branch) (l : Constraint) (j p c : ℕ) (d : Branch) → WellFormed n constants b → ConstraintIn n m l → RuleOf l j → (j ≡ 19 → p < length (entriesOf l)) → (¬ (j ≡ 19) → p < n) → c < slotsOf l j → childOf constants b l j p c ≡ some d → WellFormed n constants d
+child-fit n m constants b l j p c d F i r x y h e =
+    some-each (WellFormed n constants) d (children constants b (moveAt b l j p .1)) (picked-fit n m constants b F (moveAt b l j p .1 .alternatives) (alternatives-in n m constants b F l j p i r x y)) (child-among constants b l j p c d r h e)
 
 -- a propagation rule has one number
 abbrev Single : Constraint → ℕ → Type 0

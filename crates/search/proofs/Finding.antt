@@ -88,7 +88,7 @@ module _ (n : ℕ) (b : Branch) (fall : Falls (b .parents)) where
       go : Dec (j ≡ 19) → rootAt b (moveAt b l j p .0 .index) ≡ moveAt b l j p .0 .index
       go (yes e) = entry-root l j p r e
       go (no e) =
-          let w = position-root n b l j p fall few c e f in
+          let w = position-root mostTerms mostSets n b l j p fall few c e f in
           subst (λ (k : ℕ). rootAt b k ≡ k) (sym (ap (λ (x : Term). x .index) (w .2))) (w .1)
 
 -- ---- what the loops keep
@@ -251,7 +251,7 @@ module _ {split : Bool} {n : ℕ} {bs ps rows : List ℕ} where
       let d = a .rule .here in
       let fall : Falls (b .parents) = subst Falls (sym (y .parents-are)) (d .falls) in
       let e : ConstraintIn mostTerms mostSets c = subst (ConstraintIn mostTerms mostSets) (sym (d .unpacked .is)) (d .unpacked .handled .in-range) in
-      let w = position-of n b c j p fall (d .few) e (rule-of split c j v) f in
+      let w = position-of mostTerms mostSets n b c j p fall (d .few) e (rule-of split c j v) f in
       record {
         position = p;
         first-is = rw (ne-eqb j 0 (not-0 split c j v)) (place-at split n b (constraintsOf (read bs)) i (moveAt b c j p) (d .in-problem) (λ x l. m .quiet b y q x (omega (arith, d .in-problem)) (below-lowest 64 left x l)) (first-offer split n b c j p v (a .rule .passed b y) f));

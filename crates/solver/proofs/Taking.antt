@@ -134,7 +134,7 @@ module _ {bs : List ℕ} {tab : Table} {split : Bool} {b : Branch} {r : Found} {
 
       pub child-sound : Sound (constants bs tab) (t .branch)
       child-sound = record {
-        good = child-fit (constants bs tab) (held b) this (r .rule) q k (held (t .branch)) (s .sound .good) (s .unpacked .handled .in-range) ruled entry-there
+        good = child-fit mostTerms mostSets (constants bs tab) (held b) this (r .rule) q k (held (t .branch)) (s .sound .good) (s .unpacked .handled .in-range) ruled entry-there
             (λ n. subst (λ (x : Constraint). (q < mostTerms) × (moveAt (held b) x (r .rule) q .0 ≡ term q)) here-is (s .located .within .of-root n) .0) (m .there) given;
         rowed = m .rowed;
       }
