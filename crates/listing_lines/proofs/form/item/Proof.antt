@@ -54,17 +54,17 @@ returns c =
     let w = c .before .before .number .ensures in
     (rw (variable-is (c .before .before .before .before .before .before .before .before .before .before .before .before .before .before .before .before .before .args .problem .now) (c .before .before .before .before .before .before .before .before .before .before .before .before .before .before .before .before .before .args .tab) (c .before .before .before .before .before .before .before .before .before .before .before .before .before .before .before .before .before .pre .0) (c .before .before .before .before .before .before .before .before .before .before .before .before .before .before .before .before .before .args .form .now) (c .before .before .before .before .before .before .before .before .before .before .before .before .before .before .before .before .before .args .k) (c .before .before .before .before .before .before .before .before .before .before .before .if1 .taken), sym (c .before .before .before .before .value .ensures)) (wrote-more (omega (arith, s .pre .3)) x (w .0)), omega (arith, x .ends, w .1))
 
-mul-members : tie.Need-mul-members
-mul-members c = search needs
+mul-members-text : tie.Need-mul-members-text
+mul-members-text c = search needs
 
-add-members : tie.Need-add-members
-add-members c = search needs
+add-members-text : tie.Need-add-members-text
+add-members-text c = search needs
 
-add-members-2 : tie.Need-add-members-2
-add-members-2 c = search needs
+add-members-text-2 : tie.Need-add-members-text-2
+add-members-text-2 c = search needs
 
-shared-slice-read-members : tie.Need-shared-slice-read-members
-shared-slice-read-members c = set-there (c .before .before .before .before .before .before .before .args .problem .now) (c .before .before .before .before .before .before .before .args .tab) (c .before .before .before .before .before .before .before .pre .0) (c .before .before .before .before .before .before .before .args .form .now) (c .before .before .before .before .before .before .before .args .k) (omega arith) (c .before .before .before .before .before .before .before .pre .2)
+shared-slice-read-members-text : tie.Need-shared-slice-read-members-text
+shared-slice-read-members-text c = set-there (c .before .before .before .before .before .before .before .args .problem .now) (c .before .before .before .before .before .before .before .args .tab) (c .before .before .before .before .before .before .before .pre .0) (c .before .before .before .before .before .before .before .args .form .now) (c .before .before .before .before .before .before .before .args .k) (omega arith) (c .before .before .before .before .before .before .before .pre .2)
 
 slice-aggregate-say-2 : tie.Need-slice-aggregate-say-2
 slice-aggregate-say-2 c = search needs
@@ -72,8 +72,8 @@ slice-aggregate-say-2 c = search needs
 say-requires-2 : tie.Need-say-requires-2
 say-requires-2 c κs = search needs
 
-cast-members : tie.Need-cast-members
-cast-members c = search needs
+cast-members-text : tie.Need-cast-members-text
+cast-members-text c = search needs
 
 members-text-requires : tie.Need-members-text-requires
 members-text-requires c κs =
@@ -109,13 +109,13 @@ item-spec =
     number-requires
     same-length
     returns
-    mul-members
-    add-members
-    add-members-2
-    shared-slice-read-members
+    mul-members-text
+    add-members-text
+    add-members-text-2
+    shared-slice-read-members-text
     slice-aggregate-say-2
     say-requires-2
-    cast-members
+    cast-members-text
     members-text-requires
     same-length-2
     returns-2)
