@@ -19,17 +19,6 @@ static const uint8_t c1[] = {
     4, 2, 0        /* 2: x and 3 differ */
 };
 
-/* Two zones that do overlap: A is sectors 3 and 4, B is sector x. */
-static const uint8_t overlap[] = {
-    2, 3, 0, 4, 0, /* two constants, 3 and 4: terms 0 and 1 */
-    1, 'x',        /* one variable: term 2 */
-    2, 'A', 'B',   /* two sets: 0 and 1 */
-    3,             /* three constraints: */
-    12, 0, 0, 1,   /* 0: A is all numbers from constant 0 to constant 1 */
-    11, 1, 1, 2,   /* 1: B is exactly x */
-    15, 0, 1       /* 2: A and B share a number, their witness: term 3 */
-};
-
 /* The counts of a problem, and where its first three sections stand. */
 struct layout {
     size_t constants, variables, sets, terms;
@@ -54,15 +43,11 @@ static struct layout layout_of(const uint8_t *problem)
     l.terms = l.constants + l.variables;
     for (unsigned left = *at++; left > 0; left--) {
         switch (at[0]) {
-        case 6: case 15: case 16: /* these kinds have a witness */
+        case 6: /* this kind has a witness */
             l.terms++;
             at += 3;
             break;
-        case 14: case 17: /* and these */
-            l.terms++;
-            at += 4;
-            break;
-        case 7: case 10: case 12: case 13:
+        case 7: case 10: case 12:
             at += 4;
             break;
         case 11:
@@ -172,38 +157,32 @@ static void print_forms(uint64_t word, const struct layout *l, const uint8_t *fo
     }
 }
 
-/* Runs a problem, shows what was written, and checks the first form's model. */
-static void show(const uint8_t *problem, size_t length)
-{
-    uint8_t forms[FORM_BYTES] = {0};
-    uint8_t trace[FUSELINDA_STEP_BYTES * BUDGET] = {0};
-    uint64_t word = fuselinda_run(problem, length, BUDGET, forms, sizeof forms, trace, sizeof trace);
-
-    print_answer(word);
-    if (fuselinda_verdict_of(word) == FUSELINDA_REFUSED)
-        return;
-    struct layout l = layout_of(problem);
-    print_trace(word, trace);
-    print_forms(word, &l, forms);
-    if (fuselinda_forms_of(word) == 0) /* no record, and no model */
-        return;
-    uint8_t model[FUSELINDA_MODEL_MAX];
-    size_t model_length = write_model(&l, forms, model);
-    print_assignment(&l, model);
-    print_answer(fuselinda_check(problem, length, model, model_length));
-}
-
 /* A thread that calls fuselinda_run needs up to FUSELINDA_STACK bytes of stack; here the main thread has them. */
 int main(void)
 {
-    static const uint8_t wrong[] = {1, 3, 0, 2, 3, 0, 4, 0};
+    uint8_t forms[FORM_BYTES] = {0};
+    uint8_t trace[FUSELINDA_STEP_BYTES * BUDGET] = {0};
+    uint64_t word = fuselinda_run(c1, sizeof c1, BUDGET, forms, sizeof forms, trace, sizeof trace);
+
+    print_answer(word);
+    if (fuselinda_verdict_of(word) == FUSELINDA_REFUSED)
+        return 1;
     struct layout l = layout_of(c1);
+    print_trace(word, trace);
+    print_forms(word, &l, forms);
 
-    show(c1, sizeof c1);
-    print_assignment(&l, wrong);
-    print_answer(fuselinda_check(c1, sizeof c1, wrong, sizeof wrong));
+    if (fuselinda_forms_of(word) > 0) { /* else there is no record, and no model */
+        uint8_t assignment[FUSELINDA_MODEL_MAX];
+        size_t length = write_model(&l, forms, assignment);
+        print_assignment(&l, assignment);
+        print_answer(fuselinda_check(c1, sizeof c1, assignment, length));
 
-    show(c1, sizeof c1 - 1); /* without its last byte: refused with FUSELINDA_BAD_END */
-    show(overlap, sizeof overlap);
+        put_number(assignment + 1, 3); /* the first variable: x = 3 */
+        print_assignment(&l, assignment);
+        print_answer(fuselinda_check(c1, sizeof c1, assignment, length));
+    }
+
+    /* Without its last byte the problem is refused with FUSELINDA_BAD_END. */
+    print_answer(fuselinda_run(c1, sizeof c1 - 1, BUDGET, forms, sizeof forms, trace, sizeof trace));
     return 0;
 }

@@ -21,9 +21,9 @@ extern "C" {
  *   constraints  a kind byte, then one-byte operands
  * Two bytes are one number: low byte first, two's complement.
  * Terms are numbered from 0: the constants, then the variables, then one witness for each constraint of
- * kind 6 and 14 to 17, in the constraints' order. A witness is a number at which the relation that the
- * constraint denies is false. Sets and constraints are numbered from 0 too. An operand is the number of a
- * term (t, u, i, j) or of a set (A, B, C), never of a witness.
+ * kind 6, in their order. A witness is a number that is in one of the two sets only. Sets and constraints
+ * are numbered from 0 too. An operand is the number of a term (t, u, i, j) or of a set (A, B, C), never of
+ * a witness.
  *
  *   kind  operands          meaning                                        rules in the trace
  *   1     t A               t is in A                                      1
@@ -38,11 +38,6 @@ extern "C" {
  *   10    A B C             C is the intersection of A and B               16 to 18
  *   11    A n, then n terms A is exactly their values (n may be 0)         19, 20 (a split)
  *   12    A i j             A is all from constant i to j; empty if j < i  19, 20 (a split)
- *   13    A B C             C is A without B                               21 to 24, 25 (a split)
- *   14    A B C             C is not the union of A and B                  26 (a split)
- *   15    A B               A and B share a number: they overlap           27 (a split with one child)
- *   16    A B               A is not a subset of B                         28 (a split with one child)
- *   17    A B C             C is not the intersection of A and B           29 (a split)
  */
 
 #define FUSELINDA_PROBLEM_MAX 4096   /* bytes of a problem */
@@ -72,8 +67,7 @@ extern "C" {
  * trace: 4 bytes for each step that the word counts:
  *   0  the rule
  *   1  the constraint
- *   2  the root concerned, before the step (kinds 1 to 4: of t; rules 7 and 26 to 29: of the witness;
- *      rule 19: of the entry)
+ *   2  the root concerned, before the step (kinds 1 to 4: of t; rule 7: of the witness; rule 19: of the entry)
  *   3  the children left: of a split how many, of another rule 1; 0 if the branch closed
  *
  * Of both calls:
@@ -119,7 +113,7 @@ enum fuselinda_refusal {
     FUSELINDA_BAD_VARIABLES = 4,   /* the variables are not letters a to z, or do not ascend strictly */
     FUSELINDA_BAD_SETS = 5,        /* the sets are not letters A to Z, do not ascend strictly or exceed 8 */
     FUSELINDA_BAD_COUNT = 6,       /* more than 48 constraints */
-    FUSELINDA_BAD_KIND = 7,        /* a constraint's kind is not 1 to 17 */
+    FUSELINDA_BAD_KIND = 7,        /* a constraint's kind is not 1 to 12 */
     FUSELINDA_BAD_OPERAND = 8,     /* an operand numbers no constant, variable or set, as the kind wants */
     FUSELINDA_BAD_INTERVAL = 9,    /* kind 12: an end is a variable, or a number between the ends is no constant */
     FUSELINDA_BAD_REST = 10,       /* bytes follow the last constraint */

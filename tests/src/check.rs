@@ -65,11 +65,6 @@ impl Setting {
             Line::Disjoint { a, b } => set(a).is_disjoint(set(b)),
             Line::Subset { a, b } => set(a).is_subset(set(b)),
             Line::Meet { a, b, c } => *set(c) == set(a) & set(b),
-            Line::Without { a, b, c } => *set(c) == set(a) - set(b),
-            Line::NotUnion { a, b, c, .. } => *set(c) != set(a) | set(b),
-            Line::Overlap { a, b, .. } => !set(a).is_disjoint(set(b)),
-            Line::NotSubset { a, b, .. } => !set(a).is_subset(set(b)),
-            Line::NotMeet { a, b, c, .. } => *set(c) != set(a) & set(b),
             // A kind 12 line's entries are all the whole numbers meant:
             // question 9 saw to it.
             Line::List { a, entries } => {

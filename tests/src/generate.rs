@@ -53,17 +53,6 @@ impl Rng {
     }
 }
 
-/// The kinds are 1 to 17.
-pub const KINDS: usize = 17;
-
-/// The kinds of three sets.
-pub fn of_three(kind: u8) -> bool {
-    matches!(kind, 7 | 10 | 13 | 14 | 17)
-}
-
-/// The kinds that have a witness.
-pub const DENYING: [u8; 5] = [6, 14, 15, 16, 17];
-
 /// A sheet in parts, before it is bytes.
 #[derive(Clone, Default)]
 pub struct Draft {
@@ -96,12 +85,7 @@ impl Draft {
     }
 
     fn terms(&self) -> usize {
-        self.nameable() + self.lines.iter().filter(|line| DENYING.contains(&line[0])).count()
-    }
-
-    /// Whether one more constraint of this kind leaves T at 64 or below.
-    fn has_room(&self, kind: u8) -> bool {
-        !DENYING.contains(&kind) || self.terms() < MAX_TERMS
+        self.nameable() + self.lines.iter().filter(|line| line[0] == 6).count()
     }
 }
 
@@ -168,13 +152,13 @@ struct Size {
     names: usize,
     sets: usize,
     lines: usize,
-    /// How often each kind 1 to 17 is drawn; place 0 is not used.
-    weights: [usize; KINDS + 1],
+    /// How often each kind 1 to 12 is drawn; place 0 is not used.
+    weights: [usize; 13],
     /// Of a hundred lines, how many need not be true of the plan.
     noise: usize,
 }
 
-const EVEN: [usize; KINDS + 1] = [0, 8, 5, 4, 5, 3, 3, 7, 3, 3, 3, 8, 4, 6, 3, 2, 2, 3];
+const EVEN: [usize; 13] = [0, 8, 5, 4, 5, 3, 4, 8, 4, 4, 4, 8, 4];
 
 fn draw_size(rng: &mut Rng) -> Size {
     let noise = match rng.below(20) {
@@ -215,17 +199,17 @@ fn draw_size(rng: &mut Rng) -> Size {
         // Lists and intervals.
         9 | 10 => {
             set(rng.between(1, 12), rng.between(2, 8), rng.between(1, 4), rng.between(3, 14));
-            size.weights = [0, 8, 2, 2, 4, 1, 1, 2, 1, 1, 2, 10, 10, 2, 1, 1, 1, 1];
+            size.weights = [0, 8, 2, 2, 4, 1, 1, 2, 1, 1, 2, 10, 10];
         }
         // Witnesses and unions.
         _ => {
             set(rng.below(5), rng.below(6), rng.between(2, 8), rng.between(4, 16));
-            size.weights = [0, 6, 4, 1, 2, 1, 6, 8, 2, 2, 2, 2, 1, 7, 3, 2, 2, 3];
+            size.weights = [0, 6, 4, 1, 2, 1, 8, 10, 2, 2, 2, 2, 1];
         }
     }
     if rng.percent(10) {
         size.weights = std::array::from_fn(|_| rng.below(6));
-        size.weights[1 + rng.below(KINDS)] += 2;
+        size.weights[1 + rng.below(12)] += 2;
     }
     size
 }
@@ -345,7 +329,7 @@ fn any_line(rng: &mut Rng, draft: &Draft, kind: u8) -> Option<Vec<u8>> {
     match kind {
         1 | 2 => line.extend([rng.below(terms) as u8, rng.below(sets) as u8]),
         3 | 4 => line.extend([rng.below(terms) as u8, rng.below(terms) as u8]),
-        _ if of_three(kind) => line.extend((0..3).map(|_| rng.below(sets) as u8)),
+        7 | 10 => line.extend((0..3).map(|_| rng.below(sets) as u8)),
         11 => {
             let count = if terms == 0 { 0 } else { rng.below(5) };
             line.extend([rng.below(sets) as u8, count as u8]);
@@ -386,32 +370,23 @@ fn true_line(rng: &mut Rng, draft: &Draft, plan: &Plan, kind: u8) -> Option<Vec<
             }
             None
         }
-        5..=10 | 13..=17 => {
+        5..=10 => {
             let mut fitting = Vec::new();
             for (a, in_a) in plan.sets.iter().enumerate() {
                 for (b, in_b) in plan.sets.iter().enumerate() {
-                    let made = match kind {
-                        7 | 14 => in_a | in_b,
-                        10 | 17 => in_a & in_b,
-                        _ => in_a - in_b,
-                    };
-                    let line = vec![kind, a as u8, b as u8];
-                    if of_three(kind) {
-                        let is_made = |c: &usize| plan.sets[*c] == made;
-                        let fits = |c: &usize| is_made(c) != DENYING.contains(&kind);
-                        fitting.extend((0..sets).filter(fits).map(|c| [&line[..], &[c as u8]].concat()));
-                        continue;
-                    }
-                    let holds = match kind {
-                        5 => in_a == in_b,
-                        6 => in_a != in_b,
-                        8 => in_a.is_disjoint(in_b),
-                        9 => in_a.is_subset(in_b),
-                        15 => !in_a.is_disjoint(in_b),
-                        _ => !in_a.is_subset(in_b),
-                    };
-                    if holds {
-                        fitting.push(line);
+                    let line = [kind, a as u8, b as u8];
+                    match kind {
+                        5 if in_a == in_b => fitting.push(line.to_vec()),
+                        6 if in_a != in_b => fitting.push(line.to_vec()),
+                        8 if in_a.is_disjoint(in_b) => fitting.push(line.to_vec()),
+                        9 if in_a.is_subset(in_b) => fitting.push(line.to_vec()),
+                        7 | 10 => {
+                            let made = if kind == 7 { in_a | in_b } else { in_a & in_b };
+                            for c in (0..sets).filter(|&c| plan.sets[c] == made) {
+                                fitting.push(vec![kind, a as u8, b as u8, c as u8]);
+                            }
+                        }
+                        _ => {}
                     }
                 }
             }
@@ -484,10 +459,10 @@ fn true_line(rng: &mut Rng, draft: &Draft, plan: &Plan, kind: u8) -> Option<Vec<
     }
 }
 
-fn draw_kind(rng: &mut Rng, weights: &[usize; KINDS + 1]) -> u8 {
+fn draw_kind(rng: &mut Rng, weights: &[usize; 13]) -> u8 {
     let sum: usize = weights[1..].iter().sum();
     let mut left = rng.below(sum.max(1));
-    for kind in 1..=KINDS {
+    for kind in 1..=12 {
         if left < weights[kind] {
             return kind as u8;
         }
@@ -509,7 +484,7 @@ fn draw_mixed(rng: &mut Rng) -> Drawn {
     while draft.lines.len() < size.lines && tries < 3 * size.lines {
         tries += 1;
         let kind = draw_kind(rng, &size.weights);
-        if !draft.has_room(kind) {
+        if kind == 6 && draft.terms() == MAX_TERMS {
             continue;
         }
         let line = if rng.percent(size.noise) {
@@ -528,18 +503,17 @@ fn draw_mixed(rng: &mut Rng) -> Drawn {
 /// Adds lines, true of the plan, that most often call for a split.
 fn open_up(rng: &mut Rng, draft: &mut Draft, plan: &Plan) {
     draft.lines.truncate(MAX_LINES - 2);
-    let kind = *rng.pick(&[6, 7, 7, 11, 11, 12, 13, 13, 14, 15, 16, 17]);
-    let other = *rng.pick(&DENYING);
+    let kind = *rng.pick(&[6, 7, 7, 11, 11, 12]);
     let Some(line) = true_line(rng, draft, plan, kind) else {
-        if draft.has_room(other) {
-            draft.lines.extend(true_line(rng, draft, plan, other));
+        if draft.terms() < MAX_TERMS {
+            draft.lines.extend(true_line(rng, draft, plan, 6));
         }
         return;
     };
-    if !draft.has_room(kind) {
+    if kind == 6 && draft.terms() == MAX_TERMS {
         return;
     }
-    // Some name that is in the union, in the list, or in A.
+    // Some name that is in the union, or in the list.
     let a = line[if kind == 7 { 3 } else { 1 }];
     let from = draft.constants.len();
     let inside: Vec<usize> = (from..draft.nameable())
@@ -551,9 +525,9 @@ fn open_up(rng: &mut Rng, draft: &mut Draft, plan: &Plan) {
     if !inside.is_empty() {
         draft.lines.push(vec![1, *rng.pick(&inside) as u8, a]);
     }
-    if draft.has_room(other) && !DENYING.contains(&kind) && (inside.is_empty() || rng.percent(60)) {
+    if draft.terms() < MAX_TERMS && kind != 6 && (inside.is_empty() || rng.percent(60)) {
         draft.lines.truncate(MAX_LINES - 1);
-        draft.lines.extend(true_line(rng, draft, plan, other));
+        draft.lines.extend(true_line(rng, draft, plan, 6));
     }
 }
 
@@ -586,11 +560,11 @@ fn draw_chain(rng: &mut Rng) -> Drawn {
         }
     }
     let (first, last) = (chain[0], chain[links]);
-    match rng.below(15) {
+    match rng.below(11) {
         0 | 6 => draft.lines.extend([vec![1, first, 0], vec![2, last, 0]]),
         7 | 8 => draft.lines.extend([vec![2, first, 0], vec![1, last, 0]]),
         // out of D, which lists the other.
-        9 | 14 => draft.lines.extend([vec![2, first, 3], vec![11, 3, 1, last]]),
+        9 => draft.lines.extend([vec![2, first, 3], vec![11, 3, 1, last]]),
         // in the union of A and B, but in neither.
         4 | 5 => {
             let middle = *rng.pick(&chain);
@@ -600,16 +574,6 @@ fn draw_chain(rng: &mut Rng) -> Drawn {
         2 if constants == 2 => draft.lines.extend([vec![3, first, 0], vec![3, 1, last]]),
         // in A, A within B, B apart from C, in C.
         3 => draft.lines.extend([vec![1, first, 0], vec![9, 0, 1], vec![8, 1, 2], vec![1, last, 2]]),
-        // in A and out of B; some other member is out of A without B.
-        11 | 12 => {
-            let middle = *rng.pick(&chain);
-            draft.lines.extend([vec![1, first, 0], vec![2, last, 1], vec![13, 0, 1, 2], vec![2, middle, 2]]);
-        }
-        // in A, and in or out of A without B.
-        13 => {
-            let fact = vec![1 + rng.below(2) as u8, last, 2];
-            draft.lines.extend([vec![1, first, 0], fact, vec![13, 0, 1, 2]]);
-        }
         // in A and in B, which meet in C; some other member is out of C.
         _ => {
             let middle = *rng.pick(&chain);
@@ -621,8 +585,7 @@ fn draw_chain(rng: &mut Rng) -> Drawn {
         draft.lines.push(vec![1, *rng.pick(&chain), 2]);
     }
     if rng.percent(30) {
-        let kind = *rng.pick(&DENYING);
-        draft.lines.extend(any_line(rng, &draft, kind));
+        draft.lines.push(vec![6, rng.below(4) as u8, rng.below(4) as u8]);
     }
     match rng.below(3) {
         0 => rng.shuffle(&mut draft.lines),
@@ -716,21 +679,14 @@ fn draw_meeting(rng: &mut Rng) -> Drawn {
     let [a, b, e] = [&drawn[0], &drawn[1], &drawn[2]];
     let of_list = list.iter().map(|&t| plan.value(&draft, t as usize)).collect();
     // A, B, their intersection and union, E, the union of B and E, the
-    // intersection of A and E or A without E, the list.
-    let without = rng.percent(50);
-    let last = if without { a - e } else { a & e };
-    plan.sets = vec![a.clone(), b.clone(), a & b, a | b, e.clone(), b | e, last, of_list];
-    let of_last = vec![if without { 13 } else { 10 }, 0, 4, 6];
-    let mut lines = vec![vec![10, 0, 1, 2], vec![7, 0, 1, 3], vec![7, 1, 4, 5], of_last];
+    // intersection of A and E, the list.
+    plan.sets = vec![a.clone(), b.clone(), a & b, a | b, e.clone(), b | e, a & e, of_list];
+    let mut lines = vec![vec![10, 0, 1, 2], vec![7, 0, 1, 3], vec![7, 1, 4, 5], vec![10, 0, 4, 6]];
     rng.shuffle(&mut lines);
     lines.truncate(rng.between(2, 4));
     // Each side most often knows what the other does not.
     for (at, &t) in names.iter().enumerate() {
-        let telling: &[u8] = match (at < entries, without) {
-            (true, _) => &[0, 3, 5],
-            (false, true) => &[1, 4, 6],
-            (false, false) => &[1, 4],
-        };
+        let telling: &[u8] = if at < entries { &[0, 3, 5] } else { &[1, 4] };
         for set in 0..7 {
             if rng.percent(if telling.contains(&set) { 75 } else { 8 }) {
                 let holds = plan.sets[set as usize].contains(&plan.value(&draft, t as usize));
@@ -792,46 +748,6 @@ fn draw_unions(rng: &mut Rng) -> Drawn {
     Drawn { draft, plan }
 }
 
-/// Few sets, of which differences and denying constraints say much; most often
-/// with names of which one fact is known.
-fn draw_denials(rng: &mut Rng) -> Drawn {
-    let (constants, names, sets) = (rng.below(2), rng.below(4), rng.between(1, 4));
-    let mut draft = Draft {
-        constants: draw_constants(rng, constants),
-        names: draw_letters(rng, names, b'a'),
-        sets: draw_letters(rng, sets, b'A'),
-        lines: Vec::new(),
-    };
-    let plan = draw_plan(rng, &draft, sets);
-    let untrue = *rng.pick(&[0, 0, 0, 40, 100]);
-    for _ in 0..rng.between(1, 4) {
-        let kind = rng.between(13, KINDS) as u8;
-        let line =
-            if rng.percent(untrue) { any_line(rng, &draft, kind) } else { true_line(rng, &draft, &plan, kind) };
-        draft.lines.extend(line);
-    }
-    for _ in 0..rng.below(3) {
-        let kind = *rng.pick(&[4, 5, 6, 7, 8, 9, 10, 11]);
-        draft.lines.extend(true_line(rng, &draft, &plan, kind));
-    }
-    if draft.nameable() > 0 && rng.percent(15) {
-        // B is A without B, so both are empty; but something is in A.
-        let (a, b) = (rng.below(sets) as u8, rng.below(sets) as u8);
-        draft.lines.extend([vec![13, a, b, b], vec![1, rng.below(draft.nameable()) as u8, a]]);
-    }
-    for t in 0..draft.nameable() {
-        if rng.percent(75) {
-            let a = rng.below(sets);
-            let inside = plan.sets[a].contains(&plan.value(&draft, t)) != rng.percent(untrue / 4);
-            draft.lines.push(vec![if inside { 1 } else { 2 }, t as u8, a as u8]);
-        }
-    }
-    if rng.percent(50) {
-        rng.shuffle(&mut draft.lines);
-    }
-    Drawn { draft, plan }
-}
-
 /// A problem with hardly anything in it, or nothing.
 fn draw_bare(rng: &mut Rng) -> Drawn {
     let count = rng.below(3);
@@ -842,7 +758,7 @@ fn draw_bare(rng: &mut Rng) -> Drawn {
     draft.sets = draw_letters(rng, count, b'A');
     let plan = draw_plan(rng, &draft, count);
     for _ in 0..rng.below(3) {
-        let kind = rng.between(1, KINDS) as u8;
+        let kind = 1 + rng.below(12) as u8;
         draft.lines.extend(any_line(rng, &draft, kind));
     }
     Drawn { draft, plan }
@@ -897,8 +813,7 @@ fn draw_full(rng: &mut Rng) -> Drawn {
     plan.sets[0] = few.into_iter().collect();
     let lists = rng.between(18, 26);
     while draft.lines.len() < MAX_LINES - lists {
-        let others = [1, 1, 2, 2, 3, 4, 5, 7, 8, 9, 10, 12, 13];
-        let kind = *rng.pick(if draft.terms() < MAX_TERMS { &DENYING[..] } else { &others });
+        let kind = if draft.terms() < MAX_TERMS { 6 } else { *rng.pick(&[1, 1, 2, 2, 3, 4, 5, 7, 8, 9, 10, 12]) };
         let line = true_line(rng, &draft, &plan, kind).or_else(|| any_line(rng, &draft, kind));
         draft.lines.extend(line);
     }
@@ -924,15 +839,14 @@ fn draw_full(rng: &mut Rng) -> Drawn {
 
 /// A well formed problem: it passes questions 1 to 11.
 pub fn draw(rng: &mut Rng) -> Drawn {
-    match rng.below(47) {
-        0..=3 | 46 => draw_chain(rng),
+    match rng.below(40) {
+        0..=3 => draw_chain(rng),
         4 | 5 => draw_places(rng),
         6 if rng.percent(30) => draw_full(rng),
         6 => draw_long(rng),
         7..=13 => draw_meeting(rng),
         14..=19 => draw_unions(rng),
         20 => draw_bare(rng),
-        21..=26 => draw_denials(rng),
         _ => draw_mixed(rng),
     }
 }
@@ -989,13 +903,6 @@ pub fn damage_line(rng: &mut Rng, draft: &Draft) -> Vec<u8> {
     let mut d = draft.clone();
     d.lines.truncate(MAX_LINES - 1);
     let (constants, terms, sets) = (d.constants.len(), d.nameable(), d.sets.len());
-    // The kinds of most operands more often than others.
-    let chosen = match rng.below(8) {
-        0 => Some(11),
-        1 => Some(12),
-        2 | 3 => Some(*rng.pick(&[7, 10, 13, 14, 17])),
-        _ => None,
-    };
     let mut operand = |limits: &[usize]| -> u8 {
         let limit = *rng.pick(limits);
         match rng.below(8) {
@@ -1007,12 +914,12 @@ pub fn damage_line(rng: &mut Rng, draft: &Draft) -> Vec<u8> {
             _ => rng.below(limit.max(1)) as u8,
         }
     };
-    let kind = chosen.unwrap_or_else(|| operand(&[18, 17, 19, 18]));
+    let kind = operand(&[13, 12, 14, 13]);
     let mut line = vec![kind];
     match kind {
         1 | 2 => line.extend([operand(&[terms]), operand(&[sets])]),
         3 | 4 => line.extend([operand(&[terms]), operand(&[terms])]),
-        _ if of_three(kind) => line.extend((0..3).map(|_| operand(&[sets]))),
+        7 | 10 => line.extend((0..3).map(|_| operand(&[sets]))),
         11 => {
             let count = operand(&[1, 3, 6]) % 12;
             line.extend([operand(&[sets]), count]);
@@ -1106,34 +1013,31 @@ fn damage_parts(rng: &mut Rng, d: &mut Draft, number: u8) {
                 d.lines.push(vec![0]);
             }
             let at = rng.below(d.lines.len());
-            d.lines[at][0] = *rng.pick(&[0, 18, 19, 255]);
+            d.lines[at][0] = *rng.pick(&[0, 13, 14, 255]);
         }
         8 => {
-            let (terms, sets) = (d.nameable().min(255) as u8, d.sets.len() as u8);
+            let (terms, sets) = (d.nameable() as u8, d.sets.len() as u8);
             if d.lines.is_empty() || rng.percent(20) {
-                d.lines.truncate(MAX_LINES - 2);
+                d.lines.truncate(MAX_LINES - 1);
                 // A witness is a term, but not one a line can name.
-                let kind = *rng.pick(&DENYING);
-                d.lines.extend(any_line(rng, d, kind));
                 d.lines.push(vec![3, terms, terms]);
             }
             let at = rng.below(d.lines.len());
             let line = &mut d.lines[at];
             let past = rng.below(2) as u8 * rng.below(20) as u8;
-            let (terms, sets) = (terms.saturating_add(past), sets + past);
             match line[0] {
-                1 | 2 if rng.percent(50) => line[1] = terms,
-                1 | 2 => line[2] = sets,
-                3 | 4 => line[1 + rng.below(2)] = terms,
-                5 | 6 | 8 | 9 | 15 | 16 => line[1 + rng.below(2)] = sets,
-                kind if of_three(kind) => line[1 + rng.below(3)] = sets,
+                1 | 2 if rng.percent(50) => line[1] = terms + past,
+                1 | 2 => line[2] = sets + past,
+                3 | 4 => line[1 + rng.below(2)] = terms + past,
+                5 | 6 | 8 | 9 => line[1 + rng.below(2)] = sets + past,
+                7 | 10 => line[1 + rng.below(3)] = sets + past,
                 11 if line.len() > 3 && rng.percent(70) => {
                     let entry = rng.between(3, line.len() - 1);
-                    line[entry] = terms;
+                    line[entry] = terms + past;
                 }
-                12 if rng.percent(70) => line[2 + rng.below(2)] = terms,
+                12 if rng.percent(70) => line[2 + rng.below(2)] = terms + past,
                 // (A line that fault 7 put there may be of one byte.)
-                _ => line.iter_mut().skip(1).take(1).for_each(|byte| *byte = sets),
+                _ => line.iter_mut().skip(1).take(1).for_each(|byte| *byte = sets + past),
             }
         }
         9 => {
@@ -1169,8 +1073,7 @@ fn damage_parts(rng: &mut Rng, d: &mut Draft, number: u8) {
             // T of 65 or more, of constants or of witnesses.
             if !d.sets.is_empty() && rng.percent(50) {
                 while d.lines.len() < MAX_LINES && d.terms() <= MAX_TERMS {
-                    let kind = *rng.pick(&DENYING);
-                    d.lines.extend(any_line(rng, d, kind));
+                    d.lines.push(vec![6, 0, rng.below(d.sets.len()) as u8]);
                 }
             }
             let wanted = if rng.percent(50) { MAX_TERMS + 1 } else { rng.between(66, 300) };
@@ -1206,7 +1109,7 @@ pub fn scratch(rng: &mut Rng, bytes: &mut Vec<u8>) {
             }
             1 => bytes.insert(at, rng.next() as u8),
             2 => bytes.truncate(at),
-            3 => bytes.push(rng.below(19) as u8),
+            3 => bytes.push(rng.below(14) as u8),
             4 => bytes[at] = bytes[at].wrapping_add(1),
             5 => bytes[at] = bytes[at].wrapping_sub(1),
             6 => bytes[at] ^= 1 << rng.below(8),

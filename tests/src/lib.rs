@@ -1,5 +1,5 @@
-//! A solver written separately, from documents 00 and 01 and U1 of document 02
-//! alone, and what is needed to compare the library with it.
+//! A solver written separately, from documents 00 and 01 alone, and what is
+//! needed to compare the library with it.
 
 pub mod check;
 pub mod coverage;

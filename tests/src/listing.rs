@@ -66,7 +66,7 @@ const C1: &[u8] = &[
 ];
 
 /// C1 to C12 of document 01 (C2 and C3 have C1's bytes), and a few more.
-pub const WRITTEN: [Written; 25] = [
+pub const WRITTEN: [Written; 20] = [
     Written { name: "C1", problem: C1, text: "FORMS 1 STEPS 5\nx=4 A={3,4}\n" },
     Written { name: "C4", problem: C1.split_at(19).0, text: "REFUSED 2\n" },
     Written { name: "C5", problem: &[0, 0, 0, 0], text: "FORMS 1 STEPS 0\n\n" },
@@ -161,25 +161,6 @@ pub const WRITTEN: [Written; 25] = [
         ],
         text: "FORMS 1 STEPS 4\na=32002 c=9 M={9,32002}\n",
     },
-    // x is term 0; the witness is term 1.
-    Written {
-        name: "A and B share something, x in A",
-        problem: &[0, 1, b'x', 2, b'A', b'B', 2, 15, 0, 1, 1, 0, 0],
-        text: "FORMS 1 STEPS 2\nx=32001 A={32001,32002} B={32002}\n",
-    },
-    Written {
-        name: "C is not the union of A and B",
-        problem: &[0, 0, 3, b'A', b'B', b'C', 1, 14, 0, 1, 2],
-        text: "FORMS 3 STEPS 1\nA={} B={} C={32001}\nA={32001} B={} C={}\nA={} B={32001} C={}\n",
-    },
-    // A = [3, 4], B = {4}: three entries; 3 in B closes, 3 in C does not.
-    Written {
-        name: "C is A without B",
-        problem: &[2, 3, 0, 4, 0, 0, 3, b'A', b'B', b'C', 3, 12, 0, 0, 1, 11, 1, 1, 1, 13, 0, 1, 2],
-        text: "FORMS 1 STEPS 5\nA={3,4} B={4} C={3}\n",
-    },
-    Written { name: "A is no subset of A", problem: &[0, 0, 1, b'A', 1, 16, 0, 0], text: "FALSE 0 STEPS 1\n" },
-    Written { name: "kind 18", problem: &[0, 0, 1, b'A', 1, 18, 0, 0, 0], text: "REFUSED 7\n" },
     // The sample of crates/listing: C = A ∪ B, A = {-300, 7}, x in C, B not D.
     Written {
         name: "the program's sample",

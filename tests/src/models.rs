@@ -2,15 +2,14 @@
 //! values is tried. The rules of document 01 are not used.
 //!
 //! The domain holds the constants and as many further values as there are
-//! number variables and denying constraints, of kinds 6 and 14 to 17. If a
-//! problem has a solution, it has one over this domain: rename the values of its
-//! variables, and for each denying constraint one value at which what it denies
-//! fails, into the domain, and drop all other values from the sets. So a problem
-//! without one here has none at all.
+//! number variables and constraints of kind 6. If a problem has a solution, it
+//! has one over this domain: rename the values of its variables, and one value
+//! for each kind 6 in which its two sets differ, into the domain, and drop all
+//! other values from the sets. So a problem without one here has none at all.
 //!
-//! Once the numbers are chosen, each other kind says of each value separately
-//! which sets may hold it. So the sets are tried value by value, and a denying
-//! constraint asks for one value at which what it denies fails.
+//! Once the numbers are chosen, each kind but 6 says of each value separately
+//! which sets may hold it. So the sets are tried value by value, and kind 6
+//! asks for one value at which two sets differ.
 
 use crate::check::Setting;
 use crate::sheet::{Line, Sheet};
@@ -19,22 +18,8 @@ use std::ops::ControlFlow;
 pub struct Models<'a> {
     sheet: &'a Sheet<'a>,
     pub domain: Vec<i32>,
-    /// The denying constraints.
-    denying: Vec<Line<'a>>,
-}
-
-/// Of a denying constraint, whether what it denies fails at a value that the
-/// sets of `mask` hold and no others; of any other constraint, none.
-fn denied(line: &Line, mask: u8) -> Option<bool> {
-    let holds = |a: usize| mask >> a & 1 == 1;
-    Some(match *line {
-        Line::Unequal { a, b, .. } => holds(a) != holds(b),
-        Line::NotUnion { a, b, c, .. } => holds(c) != (holds(a) || holds(b)),
-        Line::Overlap { a, b, .. } => holds(a) && holds(b),
-        Line::NotSubset { a, b, .. } => holds(a) && !holds(b),
-        Line::NotMeet { a, b, c, .. } => holds(c) != (holds(a) && holds(b)),
-        _ => return None,
-    })
+    /// The sets of each constraint of kind 6.
+    unequal: Vec<(usize, usize)>,
 }
 
 /// For each value of the domain, what sets may hold it.
@@ -42,18 +27,22 @@ struct Choices {
     numbers: Vec<i32>,
     /// Per value: the masks of sets.
     masks: Vec<Vec<u8>>,
-    /// Per value and one beyond: the denying constraints (as a mask) that may be
+    /// Per value and one beyond: the kind 6 constraints (as a mask) that may be
     /// left over when the values before it are done, and can still be met.
     open: Vec<Vec<bool>>,
 }
 
 impl<'a> Models<'a> {
     pub fn of(sheet: &'a Sheet<'a>) -> Models<'a> {
-        let denying: Vec<Line> = sheet.lines.iter().filter(|line| denied(line, 0).is_some()).copied().collect();
-        let further = (sheet.names.len() + denying.len()).max(1) as i32;
+        let unequal: Vec<(usize, usize)> = sheet
+            .lines
+            .iter()
+            .filter_map(|line| if let Line::Unequal { a, b, .. } = *line { Some((a, b)) } else { None })
+            .collect();
+        let further = (sheet.names.len() + unequal.len()).max(1) as i32;
         let constants = (0..sheet.constants()).map(|t| sheet.constant(t));
         let domain = constants.chain((0..further).map(|n| 32_001 + n)).collect();
-        Models { sheet, domain, denying }
+        Models { sheet, domain, unequal }
     }
 
     /// How many ways there are to give values to the variables.
@@ -68,7 +57,7 @@ impl<'a> Models<'a> {
         }
     }
 
-    /// What a constraint that denies nothing says of one value `v`, held by the
+    /// What a constraint of any kind but 6 says of one value `v`, held by the
     /// sets of `mask` and no others.
     fn at(&self, line: &Line, numbers: &[i32], v: i32, mask: u8) -> bool {
         let holds = |a: usize| mask >> a & 1 == 1;
@@ -79,24 +68,19 @@ impl<'a> Models<'a> {
             Line::Same { t, u } => self.term(numbers, t) == self.term(numbers, u),
             Line::Differ { t, u } => self.term(numbers, t) != self.term(numbers, u),
             Line::Equal { a, b } => holds(a) == holds(b),
-            Line::Unequal { .. }
-            | Line::NotUnion { .. }
-            | Line::Overlap { .. }
-            | Line::NotSubset { .. }
-            | Line::NotMeet { .. } => true,
+            Line::Unequal { .. } => true,
             Line::Union { a, b, c } => holds(c) == (holds(a) || holds(b)),
             Line::Disjoint { a, b } => !(holds(a) && holds(b)),
             Line::Subset { a, b } => !holds(a) || holds(b),
             Line::Meet { a, b, c } => holds(c) == (holds(a) && holds(b)),
-            Line::Without { a, b, c } => holds(c) == (holds(a) && !holds(b)),
             Line::List { a, entries } => holds(a) == entries.iter().any(|&t| is(t as usize)),
         }
     }
 
-    /// The denying constraints that a value with this mask makes true.
-    fn met(&self, mask: u8) -> usize {
-        let true_here = |line: &Line| denied(line, mask) == Some(true);
-        self.denying.iter().enumerate().filter(|(_, line)| true_here(line)).map(|(n, _)| 1 << n).sum()
+    /// The kind 6 constraints whose two sets differ at a value with this mask.
+    fn parted(&self, mask: u8) -> usize {
+        let differ = |&(a, b): &(usize, usize)| mask >> a & 1 != mask >> b & 1;
+        self.unequal.iter().enumerate().filter(|(_, pair)| differ(pair)).map(|(n, _)| 1 << n).sum()
     }
 
     fn choices(&self, numbers: &[i32]) -> Option<Choices> {
@@ -113,13 +97,13 @@ impl<'a> Models<'a> {
             }
             masks.push(here);
         }
-        let all = 1 << self.denying.len();
+        let all = 1 << self.unequal.len();
         let mut open = vec![vec![false; all]; self.domain.len() + 1];
         open[self.domain.len()][0] = true;
         for at in (0..self.domain.len()).rev() {
             for &mask in &masks[at] {
                 for left in 0..all {
-                    open[at][left] |= open[at + 1][left & !self.met(mask)];
+                    open[at][left] |= open[at + 1][left & !self.parted(mask)];
                 }
             }
         }
@@ -171,7 +155,7 @@ impl<'a> Models<'a> {
         }
         for &mask in &choices.masks[at] {
             held.push(mask);
-            self.each_model(choices, left & !self.met(mask), held, give)?;
+            self.each_model(choices, left & !self.parted(mask), held, give)?;
             held.pop();
         }
         ControlFlow::Continue(())
@@ -181,7 +165,7 @@ impl<'a> Models<'a> {
     /// fewer. Where there are many ways to choose the numbers, only those that
     /// are not alike are gone through.
     pub fn some(&self, most: usize) -> Vec<Setting> {
-        let all = (1usize << self.denying.len()) - 1;
+        let all = (1usize << self.unequal.len()) - 1;
         let mut found = Vec::new();
         let _ = self.each_choice(self.ways() > 50_000.0, &mut Vec::new(), &mut |choices| {
             self.each_model(&choices, all, &mut Vec::new(), &mut |model| {

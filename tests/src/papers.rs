@@ -1,14 +1,13 @@
-//! Examples and rules of the source documents 000 to 004 that the seventeen
-//! kinds can say, each with its place, what the source says there, the same as
-//! a problem in the text of `text.rs`, and the verdict.
+//! Examples and rules of the source documents 000 to 004 that document 01's
+//! twelve kinds can say, each with its place, what the source says there, the
+//! same as a problem in the text of `text.rs`, and the verdict.
 //!
 //! The verdict is the meaning's. Where a source is wrong the row says so.
 //! A rule `left -> right` gives rows of three sorts: left without right has no
 //! solution; right without left has none; left has one. A negated constraint
-//! is written by kinds 2, 4 and 6, or by a number variable as its witness; a
-//! difference by an intersection and a union. Such a row is also written
-//! `direct`, by kinds 13 to 17. A size is written as a list of variables that
-//! differ. An interval with variable ends is written with ends chosen here.
+//! is written by kinds 2, 4 and 6, or by a number variable as its witness. A
+//! size is written as a list of variables that differ. An interval with
+//! variable ends is written with ends chosen here.
 
 pub struct Row {
     pub place: &'static str,
@@ -16,8 +15,6 @@ pub struct Row {
     pub line: u32,
     pub says: &'static str,
     pub text: &'static str,
-    /// The same by kinds 13 to 17, if the text does without them.
-    pub direct: Option<&'static str>,
     pub satisfiable: bool,
     /// All solutions, of the variables they name.
     pub solutions: &'static [&'static str],
@@ -35,18 +32,14 @@ pub struct Source {
 }
 
 const fn sat(place: &'static str, line: u32, says: &'static str, text: &'static str) -> Row {
-    Row { place, line, says, text, direct: None, satisfiable: true, solutions: &[], count: None, wrong: "", note: "" }
+    Row { place, line, says, text, satisfiable: true, solutions: &[], count: None, wrong: "", note: "" }
 }
 
 const fn unsat(place: &'static str, line: u32, says: &'static str, text: &'static str) -> Row {
-    Row { place, line, says, text, direct: None, satisfiable: false, solutions: &[], count: None, wrong: "", note: "" }
+    Row { place, line, says, text, satisfiable: false, solutions: &[], count: None, wrong: "", note: "" }
 }
 
 impl Row {
-    const fn direct(self, text: &'static str) -> Row {
-        Row { direct: Some(text), ..self }
-    }
-
     const fn solutions(self, solutions: &'static [&'static str]) -> Row {
         Row { solutions, ..self }
     }
@@ -104,8 +97,7 @@ const INTERVALS: &[Row] = &[
     unsat("Section 2 (3)", 53, "k <= m => (A = [k, m] <=> A sub [k, m] and |A| = m - k + 1)",
         "A = [1, 3]; A = {x, y}").note("left, and fewer than 3 elements"),
     unsat("Section 2", 69, "[k, m] \\ [i, j], whose result is not necessarily an interval",
-        "I = [1, 5] & [3, 3]; [1, 5] = A + I; A || I; A != {1, 2, 4, 5}")
-        .direct("A = [1, 5] - [3, 3]; A != {1, 2, 4, 5}").note("[1, 5] \\ [3, 3] as A"),
+        "I = [1, 5] & [3, 3]; [1, 5] = A + I; A || I; A != {1, 2, 4, 5}").note("[1, 5] \\ [3, 3] as A"),
     sat("Example 2", 155, "a in [k, i], a notin B, un([m, k+1], B, C), C = {x | D} is a formula",
         "a in [1, 3]; a notin B; C = [0, 2] + B; C = {x | D}").note("k = 1, i = 3, m = 0"),
     sat("Example 2", 157, "un(A, B, [k, j]), n + k > 5, size([k, j], n), B != {} is a formula",
@@ -114,13 +106,10 @@ const INTERVALS: &[Row] = &[
     unsat("Section 3.2 (Cl)", 202, "{x, y | A} = {y, x | A}", "{x, y | A} != {y, x | A}"),
     unsat("Section 3.2", 204, "{1, 2} and {2, 1} denote the same set", "{1, 2} != {2, 1}"),
     unsat("Section 3.2", 204, "{1, 2} and {1, 2, 1} denote the same set", "{1, 2} != {1, 2, 1}"),
-    unsat("Section 3.3", 212, "A sub B can be defined by un(A, B, B)", "A sub B; C = A + B; C != B")
-        .direct("A sub B; B != A + B"),
-    unsat("Remark 2", 228, "A sub B as a synonym of un(A, B, B)", "B = A + B; n in A; n notin B")
-        .direct("B = A + B; A notsub B"),
+    unsat("Section 3.3", 212, "A sub B can be defined by un(A, B, B)", "A sub B; C = A + B; C != B"),
+    unsat("Remark 2", 228, "A sub B as a synonym of un(A, B, B)", "B = A + B; n in A; n notin B"),
     unsat("Section 3.3 (6)", 220, "nun(A, B, C) = (n in C, n notin A, n notin B) or (n in A, n notin C) or (n in B, n notin C)",
-        "D = A + B; C != D; A sub C; B sub C; C sub D")
-        .direct("C != A + B; D = A + B; A sub C; B sub C; C sub D").note("left, and none of the three cases"),
+        "D = A + B; C != D; A sub C; B sub C; C sub D").note("left, and none of the three cases"),
     unsat("Figure 1 (7)", 299, "{x | A} = {y | B} -> ... or A = {y | N}, {x | N} = B",
         "A = {y | N}; B = {x | N}; {x | A} != {y | B}").note("fourth case without left"),
     unsat("Figure 1 (7)", 295, "{x | A} = {y | B} -> four cases",
@@ -131,11 +120,9 @@ const INTERVALS: &[Row] = &[
     unsat("Section 4.2", 313, "its fourth case, {} = {1 | N}, {1 | N} = {1}", "{} = {1 | N}; {1 | N} = {1}"),
     unsat("Figure 1 (8)", 301, "un({x | C}, A, B) -> {x | C} = {x | N1}, x notin N1, B = {x | N}, x notin A, un(N1, A, N) or ...",
         "E = {x | M}; x notin M; B = {x | N}; x notin A; N = M + A; D = E + A; D != B")
-        .direct("E = {x | M}; x notin M; B = {x | N}; x notin A; N = M + A; B != E + A")
         .note("first case without left; E is {x | C}, M is N1"),
     unsat("Figure 1 (8)", 303, "... or A = {x | N2}, x notin N2, un(N1, N2, N)",
         "E = {x | M}; x notin M; B = {x | N}; A = {x | P}; x notin P; N = M + P; D = E + A; D != B")
-        .direct("E = {x | M}; x notin M; B = {x | N}; A = {x | P}; x notin P; N = M + P; B != E + A")
         .note("second case without left; the parentheses do not match in print, read as in 002 (∪5)"),
     unsat("Figure 1 (8)", 303, "... x notin N2 prevents terms denoting the same set",
         "x notin M; A = {x | P}; x notin P; N = M + P; x in N"),
@@ -160,36 +147,29 @@ const INTERVALS: &[Row] = &[
     sat("Figure 4 (18)", 361, "[k, m] || {} -> true", "[1, 3] || {}"),
     sat("Figure 4 (19)", 367, "[k, m] || A -> m < k or ...", "[2, 1] || A; x in A"),
     unsat("Figure 4 (19)", 367, "[k, m] || A -> ... N sub [k, m], size(N, m - k + 1), N || A",
-        "[1, 2] || A; N sub [1, 2]; N = {p, q}; p != q; n in N; n in A")
-        .direct("[1, 2] || A; N sub [1, 2]; N = {p, q}; p != q; N overlaps A").note("left without N || A"),
+        "[1, 2] || A; N sub [1, 2]; N = {p, q}; p != q; n in N; n in A").note("left without N || A"),
     unsat("Figure 4 (19)", 367, "[k, m] || A -> ... N sub [k, m], size(N, m - k + 1), N || A",
-        "N sub [1, 2]; N = {p, q}; p != q; N || A; n in [1, 2]; n in A")
-        .direct("N sub [1, 2]; N = {p, q}; p != q; N || A; [1, 2] overlaps A").note("right without left"),
+        "N sub [1, 2]; N = {p, q}; p != q; N || A; n in [1, 2]; n in A").note("right without left"),
     sat("Figure 4 (20)", 369, "[k, m] || [i, j] -> ... m < i or j < k", "[5, 8] || [1, 4]"),
     unsat("Figure 4 (20)", 369, "[k, m] || [i, j] -> ... m < i or j < k", "[1, 5] || [5, 8]"),
-    unsat("Figure 4 (21)", 371, "not [k, m] || A -> n in [k, m], n in A", "n in [1, 3]; n in A; [1, 3] || A")
-        .direct("[1, 3] overlaps A; [1, 3] || A"),
+    unsat("Figure 4 (21)", 371, "not [k, m] || A -> n in [k, m], n in A", "n in [1, 3]; n in A; [1, 3] || A"),
     sat("Figure 5 (22)", 411, "{} sub [k, m] -> true", "{} sub [1, 3]"),
     sat("Figure 5 (23)", 413, "A sub [k, m] is irreducible: always satisfied by the empty set", "A sub [1, 3]; A = {}"),
     unsat("Figure 5 (24)", 415, "{y | C} sub [k, m] -> k <= y <= m, C sub [k, m]", "{y | C} sub [1, 3]; 4 in C"),
     unsat("Figure 5 (24)", 415, "{y | C} sub [k, m] -> k <= y <= m, C sub [k, m]",
-        "y in [1, 3]; C sub [1, 3]; n in {y | C}; n notin [1, 3]")
-        .direct("y in [1, 3]; C sub [1, 3]; {y | C} notsub [1, 3]").note("right without left"),
+        "y in [1, 3]; C sub [1, 3]; n in {y | C}; n notin [1, 3]").note("right without left"),
     unsat("Section 4.6", 395, "rule (25) covers un({x | A}, B, [k, m])", "[1, 3] = {x | A} + B; x notin [1, 3]"),
     unsat("Figure 5 (25)", 419, "un(A, B, [k, m]) -> m < k, A = {}, B = {} or ...", "[3, 1] = A + B; A != {}"),
     unsat("Figure 5 (26)", 423, "un([k, m], [i, j], A) -> ... N1, N2 the two intervals, un(N1, N2, A)",
         "A = [1, 2] + [2, 3]; A != [1, 3]"),
-    unsat("Section 4.6 (27)", 397, "un([2, m], [m + 1, 10], [2, 10])", "D = [2, 4] + [5, 10]; D != [2, 10]")
-        .direct("[2, 10] != [2, 4] + [5, 10]").note("m = 4"),
+    unsat("Section 4.6 (27)", 397, "un([2, m], [m + 1, 10], [2, 10])", "D = [2, 4] + [5, 10]; D != [2, 10]").note("m = 4"),
     sat("Example 3", 463, "un({3, x, 1}, {y, 5}, [k, m]): k = 1, m = 5, x can be 2 and y 4 or vice versa",
         "[1, 5] = {3, x, 1} + {y, 5}").solutions(&["x=2 y=4", "x=4 y=2"]),
     unsat("Example 3", 465, "with y = 5 it cannot be an interval", "[1, 5] = {3, x, 1} + {y, 5}; y = 5"),
     unsat("Example 3", 463, "k = 1, m = 5", "[0, 5] = {3, x, 1} + {y, 5}").note("k = 0: six numbers, five entries"),
     unsat("Example 4 (30)", 479, "un(A, B, C), un(A, B, D), C != D is clearly unsatisfiable", "C = A + B; D = A + B; C != D"),
-    unsat("Example 5", 487, "its first case, n in C, n notin D, returns false", "C = A + B; D = A + B; n in C; n notin D")
-        .direct("C = A + B; D = A + B; C notsub D"),
-    unsat("Example 5", 487, "its second case, n notin C, n in D, returns false", "C = A + B; D = A + B; n notin C; n in D")
-        .direct("C = A + B; D = A + B; D notsub C"),
+    unsat("Example 5", 487, "its first case, n in C, n notin D, returns false", "C = A + B; D = A + B; n in C; n notin D"),
+    unsat("Example 5", 487, "its second case, n notin C, n in D, returns false", "C = A + B; D = A + B; n notin C; n in D"),
     sat("Example 6", 579, "{x | A} = [k, m] is satisfiable with m = k = x, A = {}", "{x | A} = [4, 4]; A = {}")
         .solutions(&["x=4 A={}"]),
     sat("Example 6", 575, "second answer: A = {x | N1}, x notin N1", "{x | A} = [4, 4]; A = {x | N}; x notin N")
@@ -212,8 +192,7 @@ const INTERVALS: &[Row] = &[
     unsat("Section 6.3 (40)", 670, "maxlb_mnub(S, i, L, ...), smin(S, k), i < k => L = {}",
         "S = L + U; L || U; L sub [0, 2]; U sub [4, 6]; 4 in S; S sub [4, 6]; L != {}").note("i = 3, k = 4"),
     unsat("Section 6.3 (41)", 676, "S sub T and both partitioned at i => Us sub Ut",
-        "S sub T; S = L + U; T = M + V; L sub [0, 2]; U sub [4, 6]; M sub [0, 2]; V sub [4, 6]; n in U; n notin V")
-        .direct("S sub T; S = L + U; T = M + V; L sub [0, 2]; U sub [4, 6]; M sub [0, 2]; V sub [4, 6]; U notsub V").note("i = 3"),
+        "S sub T; S = L + U; T = M + V; L sub [0, 2]; U sub [4, 6]; M sub [0, 2]; V sub [4, 6]; n in U; n notin V").note("i = 3"),
     sat("Example 9", 690, "max_int({5, 3, 8, 2, 4, 7, 1}, k, m) binds k to 1 and m to 5",
         "S = {5, 3, 8, 2, 4, 7, 1}; S = [1, 5] + R; [1, 5] || R; 0 notin R; 6 notin R").solutions(&["R={7,8}"]),
     sat("Example 9", 690, "and then to 7 and 8", "S = {5, 3, 8, 2, 4, 7, 1}; S = [7, 8] + R; [7, 8] || R; 6 notin R; 9 notin R")
@@ -226,23 +205,21 @@ const INTERVALS: &[Row] = &[
         "S = [3, 5] + R; [3, 5] || R; 2 notin R; 6 notin R; [2, 5] sub S").note("k = 3, m = 5, a = 2"),
     unsat("Section 6.4 (44)", 700, "un([a, b], [b + 2, c], S), max_int(S, k, m) => k = a, m = b or k = b + 2, m = c",
         "S = [1, 3] + [5, 6]; S = [1, 2] + R; [1, 2] || R; 0 notin R; 3 notin R").note("a = 1, b = 3, c = 6, k = 1, m = 2"),
-    unsat("Section 6.4", 702, "with b + 1 the maximal interval is [a, c]", "S = [1, 3] + [4, 6]; S != [1, 6]")
-        .direct("[1, 6] != [1, 3] + [4, 6]"),
+    unsat("Section 6.4", 702, "with b + 1 the maximal interval is [a, c]", "S = [1, 3] + [4, 6]; S != [1, 6]"),
     sat("Example 11", 729, "un({x | A}, B, [k + 1, m]), size(A, p), size(B, p - 3)",
         "[1, 3] = {x | A} + B; A = {p, q, r}; p != q; p != r; q != r; B = {}")
         .solutions(&["x=1 A={1,2,3}", "x=2 A={1,2,3}", "x=3 A={1,2,3}"])
         .note("k = 0, m = 3, p = 3; the source does not say; the solutions are ours"),
     unsat("Figure 8 (45)", 762, "diff([k, m], [i, j], A): k <= i <= j <= m, un([k, i - 1], [j + 1, m], A)",
-        "I = [1, 6] & [3, 4]; [1, 6] = A + I; A || I; C = [1, 2] + [5, 6]; A != C")
-        .direct("A = [1, 6] - [3, 4]; A != [1, 2] + [5, 6]").note("left without right; I is the intersection"),
+        "I = [1, 6] & [3, 4]; [1, 6] = A + I; A || I; C = [1, 2] + [5, 6]; A != C").note("left without right; I is the intersection"),
     unsat("Figure 8 (45)", 760, "diff([k, m], [i, j], A): k <= i <= m <= j, A = [k, i - 1]",
-        "I = [1, 4] & [3, 6]; [1, 4] = A + I; A || I; A != [1, 2]").direct("A = [1, 4] - [3, 6]; A != [1, 2]"),
+        "I = [1, 4] & [3, 6]; [1, 4] = A + I; A || I; A != [1, 2]"),
     unsat("Figure 8 (45)", 761, "diff([k, m], [i, j], A): i <= k <= j <= m, A = [j + 1, m]",
-        "I = [3, 6] & [1, 4]; [3, 6] = A + I; A || I; A != [5, 6]").direct("A = [3, 6] - [1, 4]; A != [5, 6]"),
+        "I = [3, 6] & [1, 4]; [3, 6] = A + I; A || I; A != [5, 6]"),
     unsat("Figure 8 (45)", 759, "diff([k, m], [i, j], A): i <= k <= m <= j, A = {}",
-        "I = [2, 3] & [1, 4]; [2, 3] = A + I; A || I; A != {}").direct("A = [2, 3] - [1, 4]; A != {}"),
+        "I = [2, 3] & [1, 4]; [2, 3] = A + I; A || I; A != {}"),
     unsat("Figure 8 (45)", 758, "diff([k, m], [i, j], A): j < k, A = [k, m]",
-        "I = [5, 6] & [1, 2]; [5, 6] = A + I; A || I; A != [5, 6]").direct("A = [5, 6] - [1, 2]; A != [5, 6]"),
+        "I = [5, 6] & [1, 2]; [5, 6] = A + I; A || I; A != [5, 6]"),
     unsat("Example 12", 769, "un(int(K, M), int(I, J), A) & un(int(I, J), int(K, M), B) & A neq B",
         "A = [1, 3] + [2, 5]; B = [2, 5] + [1, 3]; A != B").note("the source gives no verdict"),
     sat("Section 8.2", 862, "going up from floor 3 with requests {2, 5, 8, 1, 0} the next floor is 5",
@@ -301,8 +278,7 @@ const CARDINALITY: &[Row] = &[
     unsat("Example 3", 383, "un(A, B, C), size(A, ma), size(B, mb), size(C, mc), ma + mb < mc is unsatisfiable",
         "C = A + B; A = {x}; B = {y}; C = {p, q, r}; p != q; p != r; q != r").note("ma = mb = 1, mc = 3"),
     unsat("Example 4", 401, "y in x is transformed into w = {y}, x = w + x", "W = {y}; X = W + X; y notin X").note("right without left"),
-    unsat("Example 4", 401, "y in x is transformed into w = {y}, x = w + x", "y in X; W = {y}; V = W + X; V != X")
-        .direct("y in X; W = {y}; X != W + X").note("left without right"),
+    unsat("Example 4", 401, "y in x is transformed into w = {y}, x = w + x", "y in X; W = {y}; V = W + X; V != X").note("left without right"),
     unsat("Example 4", 403, "{u} + x = h & w is transformed into v = {u}, t = v + x, t = h & w",
         "V = {u}; T = V + X; T = H & W; u notin H"),
     sat("Section 4.2", 444, "1 notin S, ..., 20 notin S, size(S, m): we can find m constants anyway",
@@ -310,7 +286,6 @@ const CARDINALITY: &[Row] = &[
         .note("m = 2"),
     unsat("Example 5", 460, "un(A, B, C), A || C, A != {} is unsatisfiable disregarding the rest", "C = A + B; A || C; A != {}"),
     unsat("Section 4.3", 475, "un(A, B, C) -> (not C or B or A) and (not A or C) and (C or not A)", "C = A + B; n in B; n notin C")
-        .direct("C = A + B; B notsub C")
         .wrong("the second and third clause are the same, and an element in B only fulfils all three. Right is (not B or C) for one of them"),
     unsat("Example 6", 521, "un(A, B, C), size(A, m1), size(B, m2), size(B, m3), m3 > m1 + m2 is unsatisfiable",
         "C = A + B; A = {x}; B = {y}; B = {p, q, r}; p != q; p != r; q != r")
@@ -340,8 +315,7 @@ const CARDINALITY: &[Row] = &[
         .note("three sets; B is not empty. The source says only that it is solved in no time"),
     unsat("Section 8", 752, "A sub B, |A| = n, |B| = n => A = B", "A sub B; A = {p, q}; B = {r, s}; p != q; r != s; A != B").note("n = 2"),
     unsat("Section 8", 758, "x in A <=> {x} sub A", "{x} sub A; x notin A").note("right without left"),
-    unsat("Section 8", 758, "x in A <=> {x} sub A", "x in A; n in {x}; n notin A")
-        .direct("x in A; {x} notsub A").note("left without right"),
+    unsat("Section 8", 758, "x in A <=> {x} sub A", "x in A; n in {x}; n notin A").note("left without right"),
     unsat("Section 8", 760, "x in B + C is written un(B, C, A), x in A, rewritten A = {x | N}, un(B, C, {x | N})",
         "A = B + C; A = {x | N}; x notin B; x notin C"),
     sat("Section 9", 782, "A = [m, n] <=> A sub [m, n] and |A| = n - m + 1", "A = [5, 2]; A = {}").solutions(&["A={}"])
@@ -367,14 +341,13 @@ const RULES: &[Row] = &[
     sat("Figure 4 (=4)", 143, "if x in vars(t): x = t -> false", "A = {3 | A}")
         .note("for flat sets (=3) stands before it, so (=4) is left for sets of sets"),
     unsat("Figure 4 (=5)", 147, "x = t, and substitute x by t in all other literals", "x = 3; x in A; 3 notin A"),
-    unsat("Figure 4 (=5)", 147, "x = t, and substitute x by t in all other literals", "A = {1, 2}; B = A; C = B + {3}; C != {1, 2, 3}")
-        .direct("A = {1, 2}; B = A; {1, 2, 3} != B + {3}"),
+    unsat("Figure 4 (=5)", 147, "x = t, and substitute x by t in all other literals", "A = {1, 2}; B = A; C = B + {3}; C != {1, 2, 3}"),
     sat("Figure 4 (=6)", 149, "{} = [k, m] -> [k, m] = {}", "{} = [5, 3]"),
     unsat("Figure 4 (=7)", 151, "[k, m] = {} -> m < k", "[3, 5] = {}").note("left without right"),
     sat("Figure 4 (=8)", 153, "{x | A} = [k, m] -> [k, m] = {x | A}", "{x | A} = [1, 3]; x = 2; 2 notin A").solutions(&["x=2 A={1,3}"])
         .note("the solution is ours"),
     unsat("Figure 4 (=9)", 155, "[k, m] = {x | A} -> {x | A} sub [k, m], size({x | A}, m - k + 1)",
-        "[1, 3] = {x | A}; n in A; n notin [1, 3]").direct("[1, 3] = {x | A}; A notsub [1, 3]").note("left without the first part of right"),
+        "[1, 3] = {x | A}; n in A; n notin [1, 3]").note("left without the first part of right"),
     unsat("Figure 4 (=9)", 155, "[k, m] = {x | A} -> {x | A} sub [k, m], size({x | A}, m - k + 1)",
         "D = {x | A}; D sub [1, 2]; D = {p, q}; p != q; D != [1, 2]").note("right without left"),
     unsat("Figure 4 (=10)", 157, "if f and g differ: f = g -> false", "3 = 4").note("constants only"),
@@ -407,11 +380,9 @@ const RULES: &[Row] = &[
     unsat("Figure 6 (≠3)", 201, "A != {x1, ..., xn | A} -> x1 notin A or ... or xn notin A", "y notin A; A = {x, y | A}").note("right without left"),
     sat("Figure 6 (≠5)", 203, "{x | A} != {y | B}", "{x | A} != {y | B}; x = y"),
     unsat("Figure 6 (≠5)", 204, "{x | A} != {y | B} -> N in {x | A}, N notin {y | B} or ...",
-        "n in {x | A}; n notin {y | B}; {x | A} = {y | B}")
-        .direct("{x | A} notsub {y | B}; {x | A} = {y | B}").note("first case without left"),
+        "n in {x | A}; n notin {y | B}; {x | A} = {y | B}").note("first case without left"),
     unsat("Figure 6 (≠5)", 204, "... or N notin {x | A}, N in {y | B}",
-        "n notin {x | A}; n in {y | B}; {x | A} = {y | B}")
-        .direct("{y | B} notsub {x | A}; {x | A} = {y | B}").note("second case without left"),
+        "n notin {x | A}; n in {y | B}; {x | A} = {y | B}").note("second case without left"),
     unsat("Figure 6 (≠5)", 203, "{x | A} != {y | B} -> two cases",
         "{x | A} != {y | B}; {x | A} sub {y | B}; {y | B} sub {x | A}").note("left, and none of the cases"),
     sat("Figure 6 (≠6)", 206, "[k, m] != [i, j] -> (k <= m and (m != j or j < i or k != i)) or ...", "[3, 1] != [2, 2]"),
@@ -422,7 +393,7 @@ const RULES: &[Row] = &[
     sat("Figure 6 (≠11)", 211, "[k, m] != {} -> k <= m", "[2, 2] != {}"),
     sat("Figure 6 (≠12)", 212, "{x | A} != [k, m] -> [k, m] != {x | A}", "{x | A} != [1, 2]; x = 1; 2 in A"),
     unsat("Figure 6 (≠13)", 214, "[k, m] != {y | B} -> ... or N notin [k, m], N in {y | B}",
-        "n notin [1, 2]; n in {y | B}; [1, 2] = {y | B}").direct("{y | B} notsub [1, 2]; [1, 2] = {y | B}").note("second case without left"),
+        "n notin [1, 2]; n in {y | B}; [1, 2] = {y | B}").note("second case without left"),
     unsat("Figure 6 (≠13)", 213, "[k, m] != {y | B} -> two cases",
         "[1, 2] != {y | B}; [1, 2] sub {y | B}; {y | B} sub [1, 2]").note("left, and none of the cases"),
     unsat("Figure 7 (∈1)", 235, "x in {} -> false", "x in {}"),
@@ -434,49 +405,38 @@ const RULES: &[Row] = &[
     unsat("Figure 7 (∈4)", 241, "x in [k, m] -> k <= x <= m", "x in [2, 4]; x != 2; x != 3; x != 4").note("left without right"),
     unsat("Figure 7 (∈4)", 241, "x in [k, m] -> k <= x <= m", "x in [-2, 4]; x = 5"),
     unsat("Figure 8 (∪1)", 257, "un(A, A, B) -> A = B", "B = A + A; A != B").note("left without right"),
-    unsat("Figure 8 (∪1)", 257, "un(A, A, B) -> A = B", "A = B; C = A + A; C != B")
-        .direct("A = B; B != A + A").note("right without left"),
+    unsat("Figure 8 (∪1)", 257, "un(A, A, B) -> A = B", "A = B; C = A + A; C != B").note("right without left"),
     unsat("Figure 8 (∪2)", 259, "un(A, B, {}) -> A = {}, B = {}", "{} = A + B; A != {}").note("left without right"),
     unsat("Figure 8 (∪2)", 259, "un(A, B, {}) -> A = {}, B = {}", "{} = A + B; x in B").note("left without right"),
-    unsat("Figure 8 (∪2)", 259, "un(A, B, {}) -> A = {}, B = {}", "A = {}; B = {}; C = A + B; C != {}")
-        .direct("A = {}; B = {}; {} != A + B").note("right without left"),
+    unsat("Figure 8 (∪2)", 259, "un(A, B, {}) -> A = {}, B = {}", "A = {}; B = {}; C = A + B; C != {}").note("right without left"),
     unsat("Figure 8 (∪3)", 261, "un({}, A, B) -> B = A", "B = {} + A; A != B").note("left without right"),
-    unsat("Figure 8 (∪4)", 263, "un(A, {}, B) -> B = A", "B = A; C = A + {}; C != B")
-        .direct("B = A; B != A + {}").note("right without left"),
+    unsat("Figure 8 (∪4)", 263, "un(A, {}, B) -> B = A", "B = A; C = A + {}; C != B").note("right without left"),
     sat("Figure 8 (∪5)", 267, "un({x | C}, A, B)", "B = {x | C} + A; x in A; x notin C"),
     unsat("Figure 8 (∪5)", 267, "un({x | C}, A, B) -> (x notin A, un(N1, A, N) or ...), {x | C} = {x | N1}, B = {x | N}",
-        "E = {x | C}; E = {x | M}; x notin A; N = M + A; B = {x | N}; D = E + A; D != B")
-        .direct("E = {x | C}; E = {x | M}; x notin A; N = M + A; B = {x | N}; B != E + A").note("first case without left; E is {x | C}"),
+        "E = {x | C}; E = {x | M}; x notin A; N = M + A; B = {x | N}; D = E + A; D != B").note("first case without left; E is {x | C}"),
     unsat("Figure 8 (∪5)", 267, "... A = {x | N2}, un(N1, N2, N) ...",
-        "E = {x | M}; A = {x | P}; N = M + P; B = {x | N}; D = E + A; D != B")
-        .direct("E = {x | M}; A = {x | P}; N = M + P; B = {x | N}; B != E + A").note("second case without left; E is {x | C}"),
+        "E = {x | M}; A = {x | P}; N = M + P; B = {x | N}; D = E + A; D != B").note("second case without left; E is {x | C}"),
     unsat("Figure 8 (∪6)", 271, "un(A, {x | C}, B) -> the same",
-        "E = {x | M}; x notin A; N = M + A; B = {x | N}; D = A + E; D != B")
-        .direct("E = {x | M}; x notin A; N = M + A; B = {x | N}; B != A + E").note("first case without left"),
+        "E = {x | M}; x notin A; N = M + A; B = {x | N}; D = A + E; D != B").note("first case without left"),
     unsat("Figure 8 (∪6)", 271, "un(A, {x | C}, B) -> the same", "B = A + {x | C}; x notin B"),
     unsat("Figure 8 (∪7)", 275, "un(A, B, {x | C}) -> A = {x | N1} ... or B = {x | N1} ... or both",
         "{x | C} = A + B; x notin A; x notin B").note("left, and none of the cases"),
     sat("Figure 8 (∪7)", 275, "first case: A = {x | N1}, un(N1, B_2, N), {x | C} = {x | N}",
         "A = {x | M}; N = M + P; D = {x | N}; E = A + B; E != D")
-        .direct("A = {x | M}; N = M + P; D = {x | N}; D != A + B")
         .wrong("B_2 stands nowhere else: as printed nothing is said of B, and the case has solutions that left has not. B is meant")
         .note("first case as printed, without left; P is B_2, D is {x | C}"),
     unsat("Figure 8 (∪7)", 275, "first case: A = {x | N1}, un(N1, B, N), {x | C} = {x | N}",
-        "A = {x | M}; N = M + B; D = {x | N}; E = A + B; E != D")
-        .direct("A = {x | M}; N = M + B; D = {x | N}; D != A + B").note("with B for B_2, without left"),
+        "A = {x | M}; N = M + B; D = {x | N}; E = A + B; E != D").note("with B for B_2, without left"),
     unsat("Figure 8 (∪7)", 275, "second case: B = {x | N1}, un(A, N1, N), {x | C} = {x | N}",
-        "B = {x | M}; N = A + M; D = {x | N}; E = A + B; E != D")
-        .direct("B = {x | M}; N = A + M; D = {x | N}; D != A + B").note("without left"),
+        "B = {x | M}; N = A + M; D = {x | N}; E = A + B; E != D").note("without left"),
     unsat("Figure 8 (∪7)", 275, "third case: A = {x | N1}, B = {x | N2}, un(N1, N2, N), {x | C} = {x | N}",
         "A = {x | M}; B = {x | P}; N = M + P; D = {x | N}; E = A + B; E != D")
-        .direct("A = {x | M}; B = {x | P}; N = M + P; D = {x | N}; D != A + B")
         .note("without left; the parentheses do not match in print: {x | C} = {x | N} is read as part of each case"),
     unsat("Figure 9 (∪8)", 283, "un([k, m], A, B) -> m < k, A = B or ...", "B = [3, 1] + A; A != B").note("left without the first case"),
     unsat("Figure 9 (∪8)", 285, "... or N sub [k, m], size(N, m - k + 1), un(N, A, B)",
         "N sub [1, 2]; N = {p, q}; p != q; B = N + A; C = [1, 2] + A; C != B").note("second case without left"),
     unsat("Figure 9 (∪9)", 291, "un(A, [k, m], B) -> ... N the interval, un(A, N, B)", "B = A + [1, 2]; 2 notin B"),
-    unsat("Figure 9 (∪10)", 297, "un(A, B, [k, m]) -> ... N the interval, un(A, B, N)", "[1, 2] = A + B; x in B; x notin [1, 2]")
-        .direct("[1, 2] = A + B; B notsub [1, 2]"),
+    unsat("Figure 9 (∪10)", 297, "un(A, B, [k, m]) -> ... N the interval, un(A, B, N)", "[1, 2] = A + B; x in B; x notin [1, 2]"),
     unsat("Figure 9 (∪10)", 297, "un(A, B, [k, m]) -> ... N the interval, un(A, B, N)", "[1, 2] = A + B; 2 notin A; 2 notin B"),
     unsat("Figure 9 (∪11)", 301, "un([k, m], [i, j], A) -> m < k, j < i, A = {} or ...", "A = [3, 1] + [5, 2]; x in A"),
     unsat("Figure 9 (∪11)", 303, "or m < k, i <= j, [i, j] = A", "A = [3, 1] + [1, 2]; A != [1, 2]"),
@@ -490,23 +450,19 @@ const RULES: &[Row] = &[
     sat("Figure 10 (∪14)", 357, "or i < k, k <= j + 1, m <= j, p = i, q = j", "[1, 6] = [4, 5] + [1, 6]"),
     sat("Figure 10 (∪14)", 359, "or i < k, k <= j + 1, j < m, p = i, q = m", "[1, 6] = [4, 6] + [1, 3]"),
     unsat("Figure 10 (∪14)", 353, "or k <= i, i <= m + 1, m <= j, p = k, q = j", "[2, 6] = [1, 3] + [4, 6]").note("p = 2, k = 1"),
-    sat("Section 4.2, irreducible form", 365, "un(A, B, C), A and B distinct variables", "C = A + B; x in A; x notin B; y in B; y notin A")
-        .direct("C = A + B; A notsub B; B notsub A"),
+    sat("Section 4.2, irreducible form", 365, "un(A, B, C), A and B distinct variables", "C = A + B; x in A; x notin B; y in B; y notin A"),
     sat("Figure 11 (∥1)", 376, "{} || A -> true", "{} || A; x in A"),
     sat("Figure 11 (∥2)", 377, "A || {} -> true", "A || {}; A = {1, 2}"),
     unsat("Figure 11 (∥3)", 378, "A || A -> A = {}", "A || A; A != {}").note("left without right"),
     unsat("Figure 11 (∥4)", 379, "{x | B} || A -> x notin A, A || B", "{x | B} || A; x in A").note("left without the first part of right"),
-    unsat("Figure 11 (∥4)", 379, "{x | B} || A -> x notin A, A || B", "{x | B} || A; n in A; n in B")
-        .direct("{x | B} || A; A overlaps B").note("left without the second part of right"),
-    unsat("Figure 11 (∥4)", 379, "{x | B} || A -> x notin A, A || B", "x notin A; A || B; n in {x | B}; n in A")
-        .direct("x notin A; A || B; {x | B} overlaps A").note("right without left"),
+    unsat("Figure 11 (∥4)", 379, "{x | B} || A -> x notin A, A || B", "{x | B} || A; n in A; n in B").note("left without the second part of right"),
+    unsat("Figure 11 (∥4)", 379, "{x | B} || A -> x notin A, A || B", "x notin A; A || B; n in {x | B}; n in A").note("right without left"),
     unsat("Figure 11 (∥5)", 380, "A || {x | B} -> x notin A, A || B", "A || {x | B}; x in A"),
     unsat("Figure 11 (∥6)", 381, "{x | A} || {y | B} -> x != y, x notin B, y notin A, A || B", "{x | A} || {y | B}; x = y"),
     unsat("Figure 11 (∥6)", 381, "{x | A} || {y | B} -> x != y, x notin B, y notin A, A || B", "{x | A} || {y | B}; x in B"),
     unsat("Figure 11 (∥6)", 381, "{x | A} || {y | B} -> x != y, x notin B, y notin A, A || B", "{x | A} || {y | B}; y in A"),
     unsat("Figure 11 (∥6)", 381, "{x | A} || {y | B} -> x != y, x notin B, y notin A, A || B",
-        "x != y; x notin B; y notin A; A || B; n in {x | A}; n in {y | B}")
-        .direct("x != y; x notin B; y notin A; A || B; {x | A} overlaps {y | B}").note("right without left"),
+        "x != y; x notin B; y notin A; A || B; n in {x | A}; n in {y | B}").note("right without left"),
     sat("Figure 11 (∥7)", 382, "[k, m] || [i, j] -> m < k or j < i or one before the other", "[1, 3] || [4, 6]; [3, 1] || [1, 6]"),
     unsat("Figure 11 (∥7)", 382, "[k, m] || [i, j] -> m < k or j < i or one before the other", "[1, 3] || [2, 2]"),
     unsat("Figure 11 (∥8)", 383, "A || [k, m] -> [k, m] || A", "A || [1, 2]; 2 in A"),
@@ -526,60 +482,47 @@ const RULES: &[Row] = &[
     unsat("Figure 13 (4.8)", 435, "A sub {} -> A = {}", "A sub {}; A != {}").note("left without right"),
     unsat("Figure 13 (4.9)", 437, "{x | A} sub {} -> false", "{x | A} sub {}"),
     unsat("Figure 13 (4.10)", 439, "{x1, ..., xn | A} sub A -> un({x1, ..., xn | A}, A, A)",
-        "{x, y | A} sub A; C = {x, y | A} + A; C != A").direct("{x, y | A} sub A; A != {x, y | A} + A").note("left without right"),
+        "{x, y | A} sub A; C = {x, y | A} + A; C != A").note("left without right"),
     unsat("Figure 13 (4.10)", 439, "{x1, ..., xn | A} sub A -> un({x1, ..., xn | A}, A, A)",
-        "A = {x, y | A} + A; n in {x, y | A}; n notin A").direct("A = {x, y | A} + A; {x, y | A} notsub A").note("right without left"),
+        "A = {x, y | A} + A; n in {x, y | A}; n notin A").note("right without left"),
     unsat("Figure 13 (4.11)", 441, "{x | A} sub B -> B = {x | N}, A sub {x | N}", "{x | A} sub B; x notin B").note("left without right"),
     unsat("Figure 13 (4.11)", 441, "{x | A} sub B -> B = {x | N}, A sub {x | N}",
-        "B = {x | N}; A sub {x | N}; n in {x | A}; n notin B")
-        .direct("B = {x | N}; A sub {x | N}; {x | A} notsub B").note("right without left"),
+        "B = {x | N}; A sub {x | N}; n in {x | A}; n notin B").note("right without left"),
     sat("Figure 13 (4.12)", 443, "{x1, ..., xn | A} sub {y1, ..., ym | A}", "{x | A} sub {y, z | A}; x != y; x notin A"),
     unsat("Figure 13 (4.12)", 443, "{x1, ..., xn | A} sub {y1, ..., ym | A} -> un of the two is the second",
-        "{x | A} sub {y, z | A}; C = {x | A} + {y, z | A}; C != {y, z | A}")
-        .direct("{x | A} sub {y, z | A}; {y, z | A} != {x | A} + {y, z | A}").note("left without right"),
+        "{x | A} sub {y, z | A}; C = {x | A} + {y, z | A}; C != {y, z | A}").note("left without right"),
     unsat("Figure 13 (4.13)", 445, "{x | A} sub {y | B} -> x = y, A sub {y | B} or ...",
-        "x = y; A sub {y | B}; n in {x | A}; n notin {y | B}")
-        .direct("x = y; A sub {y | B}; {x | A} notsub {y | B}").note("first case without left"),
+        "x = y; A sub {y | B}; n in {x | A}; n notin {y | B}").note("first case without left"),
     unsat("Figure 13 (4.13)", 445, "... or x != y, x in B, A sub {y | B}",
-        "x != y; x in B; A sub {y | B}; n in {x | A}; n notin {y | B}")
-        .direct("x != y; x in B; A sub {y | B}; {x | A} notsub {y | B}").note("second case without left"),
+        "x != y; x in B; A sub {y | B}; n in {x | A}; n notin {y | B}").note("second case without left"),
     unsat("Figure 13 (4.13)", 445, "{x | A} sub {y | B} -> two cases", "{x | A} sub {y | B}; x != y; x notin B").note("left, and none of the cases"),
     unsat("Figure 13 (4.14)", 447, "{x | A} sub [k, m] -> k <= x <= m, A sub [k, m]", "{x | A} sub [1, 2]; x != 1; x != 2"),
-    unsat("Figure 13 (4.14)", 447, "{x | A} sub [k, m] -> k <= x <= m, A sub [k, m]", "{x | A} sub [1, 2]; n in A; n notin [1, 2]")
-        .direct("{x | A} sub [1, 2]; A notsub [1, 2]"),
+    unsat("Figure 13 (4.14)", 447, "{x | A} sub [k, m] -> k <= x <= m, A sub [k, m]", "{x | A} sub [1, 2]; n in A; n notin [1, 2]"),
     sat("Figure 13 (4.15)", 449, "[k, m] sub A -> m < k or N sub A, size(N, m - k + 1)",
         "A = {3, 4}; N sub A; N = {p, q}; p != q; n in [1, 2]; n notin A")
-        .direct("A = {3, 4}; N sub A; N = {p, q}; p != q; [1, 2] notsub A")
         .wrong("N sub [k, m] is missing (the other rules of this form have it): any set of 2 elements would hold [1, 2]")
         .note("right without left"),
     unsat("Figure 13 (4.15)", 449, "[k, m] sub A -> m < k or N sub A, size(N, m - k + 1)", "A = {3, 4}; [1, 2] sub A")
         .note("left on the A above"),
     unsat("Figure 13 (4.15)", 449, "[k, m] sub A -> m < k or N sub A, size(N, m - k + 1)",
-        "N sub A; N sub [1, 2]; N = {p, q}; p != q; n in [1, 2]; n notin A")
-        .direct("N sub A; N sub [1, 2]; N = {p, q}; p != q; [1, 2] notsub A").note("right without left, N sub [1, 2] added"),
+        "N sub A; N sub [1, 2]; N = {p, q}; p != q; n in [1, 2]; n notin A").note("right without left, N sub [1, 2] added"),
     sat("Figure 13 (4.16)", 451, "[k, m] sub [i, j] -> m < k or i <= k, m <= j", "[2, 3] sub [1, 4]; [5, 2] sub [3, 1]"),
     unsat("Figure 13 (4.16)", 451, "[k, m] sub [i, j] -> m < k or i <= k, m <= j", "[2, 5] sub [1, 4]"),
-    sat("Section 4.5, irreducible forms", 458, "A sub {y | B}", "A sub {y | B}; x in A; x notin B")
-        .direct("A sub {y | B}; A notsub B").note("only with x = y"),
+    sat("Section 4.5, irreducible forms", 458, "A sub {y | B}", "A sub {y | B}; x in A; x notin B").note("only with x = y"),
     unsat("Figure 14 (4.17)", 471, "inters(A, A, B) -> A = B", "B = A & A; A != B").note("left without right"),
     unsat("Figure 14 (4.18)", 473, "inters({}, B, C) -> C = {}", "C = {} & B; C != {}").note("left without right"),
     unsat("Figure 14 (4.19)", 475, "inters(A, {}, C) -> C = {}", "C = A & {}; x in C").note("left without right"),
-    unsat("Figure 14 (4.20)", 477, "inters(A, B, {}) -> A || B", "{} = A & B; n in A; n in B")
-        .direct("{} = A & B; A overlaps B").note("left without right"),
-    unsat("Figure 14 (4.20)", 477, "inters(A, B, {}) -> A || B", "A || B; C = A & B; C != {}")
-        .direct("A || B; A overlaps B").note("right without left"),
+    unsat("Figure 14 (4.20)", 477, "inters(A, B, {}) -> A || B", "{} = A & B; n in A; n in B").note("left without right"),
+    unsat("Figure 14 (4.20)", 477, "inters(A, B, {}) -> A || B", "A || B; C = A & B; C != {}").note("right without left"),
     unsat("Figure 14 (4.21)", 483, "inters({x | A}, B, C) -> x in B, C = {x | N2}, inters(A, B, N2) or ...",
-        "x in B; C = {x | N}; N = A & B; D = {x | A} & B; D != C")
-        .direct("x in B; C = {x | N}; N = A & B; C != {x | A} & B").note("first case without left"),
+        "x in B; C = {x | N}; N = A & B; D = {x | A} & B; D != C").note("first case without left"),
     unsat("Figure 14 (4.21)", 483, "... or x notin B, inters(A, B, C)",
         "x notin B; C = A & B; D = {x | A} & B; D != C").note("second case without left"),
     unsat("Figure 14 (4.22)", 489, "inters(B, {x | A}, C) -> x in B, C = {x | N2}, inters(A, B, N2) or ...",
-        "x in B; C = {x | N}; N = A & B; D = B & {x | A}; D != C")
-        .direct("x in B; C = {x | N}; N = A & B; C != B & {x | A}").note("first case without left"),
+        "x in B; C = {x | N}; N = A & B; D = B & {x | A}; D != C").note("first case without left"),
     unsat("Figure 14 (4.22)", 491, "... or x notin B, inters(A, B, C)", "C = B & {x | A}; x notin B; x in C").note("left, and x in C"),
     unsat("Figure 14 (4.23)", 497, "inters(A, B, {x | C}) -> A = {x | N1}, B = {x | N2}, inters(N1, N2, C)",
-        "A = {x | M}; B = {x | N}; C = M & N; D = A & B; D != {x | C}")
-        .direct("A = {x | M}; B = {x | N}; C = M & N; {x | C} != A & B").note("right without left"),
+        "A = {x | M}; B = {x | N}; C = M & N; D = A & B; D != {x | C}").note("right without left"),
     unsat("Figure 14 (4.23)", 497, "inters(A, B, {x | C}) -> A = {x | N1}, B = {x | N2}, inters(N1, N2, C)",
         "{x | C} = A & B; x notin A").note("left without right"),
     sat("Figure 14 (4.23)", 497, "inters(A, B, {x | C}) -> A = {x | N1}, B = {x | N2}, inters(N1, N2, C)",
@@ -591,17 +534,15 @@ const RULES: &[Row] = &[
     unsat("Figure 15 (4.25)", 513, "or k < i, j < m, C = [i, j]", "C = [1, 6] & [2, 4]; C != [2, 4]"),
     unsat("Figure 15 (4.25)", 514, "or i < k, m < j, C = [k, m]", "C = [3, 4] & [1, 6]; C != [3, 4]"),
     unsat("Figure 15 (4.26)", 519, "inters(A, B, C) -> un(C, N1, A), un(C, N2, B), N1 || N2",
-        "A = C + M; B = C + N; M || N; D = A & B; D != C").direct("A = C + M; B = C + N; M || N; C != A & B").note("right without left"),
+        "A = C + M; B = C + N; M || N; D = A & B; D != C").note("right without left"),
     sat("Figure 15 (4.26)", 519, "inters(A, B, C) -> un(C, N1, A), un(C, N2, B), N1 || N2",
         "C = A & B; A = C + M; B = C + N; M || N; x in M; y in N; z in C"),
     unsat("Figure 16 (4.27)", 538, "diff(A, B, C) -> un(C, A, A), un(B, C, N), un(A, N, N), B || C",
-        "A = C + A; N = B + C; N = A + N; B || C; I = A & B; A = D + I; D || I; D != C")
-        .direct("A = C + A; N = B + C; N = A + N; B || C; D = A - B; D != C").note("right without left; D is A \\ B"),
+        "A = C + A; N = B + C; N = A + N; B || C; I = A & B; A = D + I; D || I; D != C").note("right without left; D is A \\ B"),
     unsat("Figure 16 (4.27)", 538, "diff(A, B, C) -> un(C, A, A), un(B, C, N), un(A, N, N), B || C",
-        "I = A & B; A = C + I; C || I; n in B; n in C").direct("C = A - B; B overlaps C").note("left without B || C"),
+        "I = A & B; A = C + I; C || I; n in B; n in C").note("left without B || C"),
     unsat("Figure 16 (4.27)", 538, "diff(A, B, C) -> un(C, A, A), un(B, C, N), un(A, N, N), B || C",
-        "I = A & B; A = C + I; C || I; N = B + C; D = A + N; D != N")
-        .direct("C = A - B; N = B + C; N != A + N").note("left without un(A, N, N)"),
+        "I = A & B; A = C + I; C || I; N = B + C; D = A + N; D != N").note("left without un(A, N, N)"),
     sat("Figure 32 (∈5)", 929, "x notin {} -> true", "x notin {}"),
     unsat("Figure 32 (∈6)", 931, "x notin {y | A} -> x != y, x notin A", "x notin {y | A}; x = y"),
     unsat("Figure 32 (∈6)", 931, "x notin {y | A} -> x != y, x notin A", "x notin {y | A}; x in A"),
@@ -609,29 +550,18 @@ const RULES: &[Row] = &[
     sat("Figure 32 (∈8)", 935, "x notin [k, m] -> x < k or m < x", "x notin [1, 2]; x in [0, 3]").solutions(&["x=0", "x=3"])
         .note("the solutions are ours"),
     unsat("Figure 33 (∪15)", 953, "nun(A, B, C) -> N in C, N notin A, N notin B or ...", "n in C; n notin A; n notin B; C = A + B").note("first case without left"),
-    unsat("Figure 33 (∪15)", 953, "or N in A, N notin C", "n in A; n notin C; C = A + B")
-        .direct("A notsub C; C = A + B").note("second case without left"),
-    unsat("Figure 33 (∪15)", 953, "or N in B, N notin C", "n in B; n notin C; C = A + B")
-        .direct("B notsub C; C = A + B").note("third case without left"),
-    unsat("Figure 34 (∥10)", 969, "not A || B -> n in A, n in B", "n in A; n in B; A || B")
-        .direct("A overlaps B; A || B").note("right without left"),
-    unsat("Figure 34 (∥10)", 969, "not A || B -> n in A, n in B", "I = A & B; I != {}; A || B")
-        .direct("A overlaps B; A || B").note("an n exists; left is false"),
-    unsat("Figure 36 (7.1)", 997, "nsubset(A, B) -> n in A, n notin B", "n in A; n notin B; A sub B")
-        .direct("A notsub B; A sub B").note("right without left"),
-    unsat("Figure 36 (7.1)", 997, "nsubset(A, B) -> n in A, n notin B", "D = A + B; D != B; A sub B")
-        .direct("A notsub B; A sub B").note("an n exists; left is false"),
-    unsat("Figure 36 (7.2)", 999, "ninters(A, B, C) -> n in C, (n notin A or n notin B) or ...", "n in C; n notin B; C = A & B")
-        .direct("C notsub B; C = A & B").note("first case without left"),
+    unsat("Figure 33 (∪15)", 953, "or N in A, N notin C", "n in A; n notin C; C = A + B").note("second case without left"),
+    unsat("Figure 33 (∪15)", 953, "or N in B, N notin C", "n in B; n notin C; C = A + B").note("third case without left"),
+    unsat("Figure 34 (∥10)", 969, "not A || B -> n in A, n in B", "n in A; n in B; A || B").note("right without left"),
+    unsat("Figure 34 (∥10)", 969, "not A || B -> n in A, n in B", "I = A & B; I != {}; A || B").note("an n exists; left is false"),
+    unsat("Figure 36 (7.1)", 997, "nsubset(A, B) -> n in A, n notin B", "n in A; n notin B; A sub B").note("right without left"),
+    unsat("Figure 36 (7.1)", 997, "nsubset(A, B) -> n in A, n notin B", "D = A + B; D != B; A sub B").note("an n exists; left is false"),
+    unsat("Figure 36 (7.2)", 999, "ninters(A, B, C) -> n in C, (n notin A or n notin B) or ...", "n in C; n notin B; C = A & B").note("first case without left"),
     unsat("Figure 36 (7.2)", 999, "or n in A, n in B, n notin C", "n in A; n in B; n notin C; C = A & B").note("second case without left"),
-    unsat("Figure 36 (7.2)", 999, "ninters(A, B, C) -> two cases", "D = A & B; C != D; C sub A; C sub B; D sub C")
-        .direct("C != A & B; D = A & B; C sub A; C sub B; D sub C").note("left, and none of the cases"),
-    unsat("Figure 36 (7.3)", 1001, "ndiff(A, B, C) -> n in C, n notin A or ...", "I = A & B; A = C + I; C || I; n in C; n notin A")
-        .direct("C = A - B; C notsub A").note("first case without left"),
-    unsat("Figure 36 (7.3)", 1001, "or n notin C, n in A, n notin B", "I = A & B; A = C + I; C || I; n notin C; n in A; n notin B")
-        .direct("C = A - B; n notin C; n in A; n notin B").note("third case without left"),
-    unsat("Figure 40 (≠15)", 1151, "X != t -> n in X, n notin t or ...", "n in X; n notin T; X = T")
-        .direct("X notsub T; X = T").note("first case without left"),
+    unsat("Figure 36 (7.2)", 999, "ninters(A, B, C) -> two cases", "D = A & B; C != D; C sub A; C sub B; D sub C").note("left, and none of the cases"),
+    unsat("Figure 36 (7.3)", 1001, "ndiff(A, B, C) -> n in C, n notin A or ...", "I = A & B; A = C + I; C || I; n in C; n notin A").note("first case without left"),
+    unsat("Figure 36 (7.3)", 1001, "or n notin C, n in A, n notin B", "I = A & B; A = C + I; C || I; n notin C; n in A; n notin B").note("third case without left"),
+    unsat("Figure 40 (≠15)", 1151, "X != t -> n in X, n notin t or ...", "n in X; n notin T; X = T").note("first case without left"),
     sat("Figure 40 (≠15)", 1151, "or X = {}, t != {}", "X != T; X = {}; T != {}"),
 ];
 
@@ -640,22 +570,17 @@ const RULES: &[Row] = &[
 const QUANTIFIERS: &[Row] = &[
     sat("Example 1", 75, "min in {y | S}, {y | S} sub {x : {y | S} | min <= x}", "2 in {y | S}; {y | S} sub [2, 5]; y = 4").note("min = 2, with [2, 5] for the numbers from 2"),
     unsat("Example 1", 75, "min in {y | S}, {y | S} sub {x : {y | S} | min <= x}", "2 in {y | S}; {y | S} sub [2, 5]; 1 in S").note("min = 2"),
-    unsat("Section 2.1 (7)", 81, "for all x in A: phi(x) <=> A sub {x : x in A and phi(x)}", "I = A & F; A sub I; n in A; n notin F")
-        .direct("I = A & F; A sub I; A notsub F").note("right without left"),
-    unsat("Section 2.1 (7)", 81, "for all x in A: phi(x) <=> A sub {x : x in A and phi(x)}", "A sub F; I = A & F; n in A; n notin I")
-        .direct("A sub F; I = A & F; A notsub I").note("left without right"),
-    unsat("Section 2.1", 95, "exists(x in A, phi) = n in A, phi(n)", "n in A; n in F; I = A & F; I = {}")
-        .direct("A overlaps F; I = A & F; I = {}"),
+    unsat("Section 2.1 (7)", 81, "for all x in A: phi(x) <=> A sub {x : x in A and phi(x)}", "I = A & F; A sub I; n in A; n notin F").note("right without left"),
+    unsat("Section 2.1 (7)", 81, "for all x in A: phi(x) <=> A sub {x : x in A and phi(x)}", "A sub F; I = A & F; n in A; n notin I").note("left without right"),
+    unsat("Section 2.1", 95, "exists(x in A, phi) = n in A, phi(n)", "n in A; n in F; I = A & F; I = {}"),
     unsat("Section 2.1", 105, "foreach(x in X, foreach(y in Y, phi(x, y)))", "X || Y; x in X; y in Y; x = y").note("phi is x != y, so X and Y are disjoint"),
     sat("Figure 1 (9)", 263, "{} sub {x : A | phi(x)} -> true", "D = A & F; {} sub D; A != F"),
     unsat("Figure 1 (10)", 265, "{a | A} sub {x : {a | A} | phi(x)} -> phi(a), A sub {x : A | phi(x)}",
         "D = {a | A}; I = D & F; D sub I; a notin F").note("left without the first part of right"),
     unsat("Figure 1 (10)", 265, "{a | A} sub {x : {a | A} | phi(x)} -> phi(a), A sub {x : A | phi(x)}",
-        "D = {a | A}; I = D & F; D sub I; J = A & F; n in A; n notin J")
-        .direct("D = {a | A}; I = D & F; D sub I; J = A & F; A notsub J").note("left without the second part of right"),
+        "D = {a | A}; I = D & F; D sub I; J = A & F; n in A; n notin J").note("left without the second part of right"),
     unsat("Figure 1 (10)", 265, "{a | A} sub {x : {a | A} | phi(x)} -> phi(a), A sub {x : A | phi(x)}",
-        "a in F; J = A & F; A sub J; D = {a | A}; I = D & F; n in D; n notin I")
-        .direct("a in F; J = A & F; A sub J; D = {a | A}; I = D & F; D notsub I").note("right without left"),
+        "a in F; J = A & F; A sub J; D = {a | A}; I = D & F; n in D; n notin I").note("right without left"),
     sat("Figure 1 (11)", 307, "A sub {x : A | phi(x)} is trivially satisfied by substituting A by the empty set", "I = A & F; A sub I; A = {}; x in F"),
     unsat("Figure 1 (13)", 273, "a in {b | A} -> a = b or a in A", "a in {b, c | A}; a != b; a != c; a notin A").note("twice"),
     unsat("Figure 1 (14)", 275, "a in A -> A = {a | N}", "A = {a | N}; a in F; A || F"),
@@ -670,13 +595,11 @@ const QUANTIFIERS: &[Row] = &[
     sat("Example 2", 394, "exists(x in A, exists(y in B, not x = y))", "x in A; y in B; x != y; A = B"),
     unsat("Example 2", 394, "exists(x in A, exists(y in B, not x = y))", "x in A; y in B; x != y; A = {1}; B = {1}"),
     unsat("Example 2", 395, "exists(x in A, foreach(y in B, x = y))", "x in A; B sub {x}; y in B; y notin A"),
-    unsat("Example 2", 396, "foreach(x in A, exists(y in B, x = y))", "A = {a, b}; a in B; b in B; n in A; n notin B")
-        .direct("A = {a, b}; a in B; b in B; A notsub B").note("for A = {a, b}: A sub B"),
+    unsat("Example 2", 396, "foreach(x in A, exists(y in B, x = y))", "A = {a, b}; a in B; b in B; n in A; n notin B").note("for A = {a, b}: A sub B"),
     sat("Example 3", 434, "(25) is reduced to phi(a, b), with A and B the empty set", "{a | A} || {b | B}; a != b; A = {}; B = {}").note("phi is x != y"),
     unsat("Example 3", 432, "(25) gives phi(a, b) ...", "{a | A} || {b | B}; a = b").note("phi is x != y"),
     unsat("Example 3", 432, "(25) gives phi(a, b), foreach(y in B, phi(a, y)), foreach([x in A, y in {b | B}], phi(x, y))",
-        "a != b; a notin B; A || {b | B}; n in {a | A}; n in {b | B}")
-        .direct("a != b; a notin B; A || {b | B}; {a | A} overlaps {b | B}").note("right without left"),
+        "a != b; a notin B; A || {b | B}; n in {a | A}; n in {b | B}").note("right without left"),
     sat("Example 4", 444, "foreach(x in {a | A}, exists(y in {b | A}, phi(x, y)))", "{a | A} sub {b | A}; a != b").note("phi is x = y"),
     unsat("Example 4", 444, "foreach(x in {a | A}, exists(y in {b | A}, phi(x, y)))", "{a | A} sub {b | A}; a != b; a notin A").note("phi is x = y"),
     unsat("Theorem 4", 497, "exists([x in A, y in B], phi) -> n1 in A, n2 in B, phi(n1, n2)", "x in A; y in B; x = y; A || B"),
@@ -686,29 +609,22 @@ const QUANTIFIERS: &[Row] = &[
     unsat("Example 5", 543, "foreach(x in {h | A}, exists(y in B, ..)) and foreach(z in B, exists(w in {b | A}, ..))",
         "{h | A} sub B; B sub {b | A}; h != b; h notin A"),
     sat("Example 7", 692, "addUsr fails to preserve inv: Admin = {X / N}, Usr_ = {X / Usr}",
-        "U || A; V = {x | U}; A = {x | N}; n in V; n in A")
-        .direct("U || A; V = {x | U}; A = {x | N}; V overlaps A"),
+        "U || A; V = {x | U}; A = {x | N}; n in V; n in A"),
     sat("Example 7", 701, "with the pre-condition X nin Usr the answer is no", "U || A; x notin U; V = {x | U}; n in V; n in A")
-        .direct("U || A; x notin U; V = {x | U}; V overlaps A")
         .wrong("X may be an administrator: x in A is not excluded. The pre-condition that helps is X nin Adm"),
-    unsat("Example 7", 701, "with the pre-condition the answer is no", "U || A; x notin A; V = {x | U}; n in V; n in A")
-        .direct("U || A; x notin A; V = {x | U}; V overlaps A").note("with X nin Adm"),
+    unsat("Example 7", 701, "with the pre-condition the answer is no", "U || A; x notin A; V = {x | U}; n in V; n in A").note("with X nin Adm"),
     unsat("Appendix A, Proposition 1", 928, "{x : {d | D} | phi} = {d : phi(d)} + {x : x in D and phi(x)}",
         "E = {d | D}; I = E & F; J = D & F; n in I; n notin J; n != d"),
     unsat("Appendix A, Proposition 1", 928, "{x : {d | D} | phi} = {d : phi(d)} + {x : x in D and phi(x)}",
-        "I = {d | D} & F; J = D & F; d in F; I != {d | J}")
-        .direct("{d | J} != {d | D} & F; J = D & F; d in F").note("for phi(d)"),
+        "I = {d | D} & F; J = D & F; d in F; I != {d | J}").note("for phi(d)"),
     unsat("Appendix A, Lemma 2", 940, "t notin A => {t | A} + {x : {t | A} | phi} = {x : {t | A} | phi} <=> phi(t), A + {x : A | phi} = {x : A | phi}",
         "t notin A; E = {t | A}; I = E & F; I = E + I; t notin F").note("left without phi(t)"),
     unsat("Appendix A, Lemma 2", 940, "the same",
-        "t notin A; t in F; J = A & F; J = A + J; E = {t | A}; I = E & F; D = E + I; D != I")
-        .direct("t notin A; t in F; J = A & F; J = A + J; E = {t | A}; I = E & F; I != E + I").note("right without left"),
-    unsat("Appendix A (37)", 944, "t notin A => {t} || A, {t} || {A | phi}", "t notin A; J = A & F; n in {t}; n in J")
-        .direct("t notin A; J = A & F; {t} overlaps J"),
+        "t notin A; t in F; J = A & F; J = A + J; E = {t | A}; I = E & F; D = E + I; D != I").note("right without left"),
+    unsat("Appendix A (37)", 944, "t notin A => {t} || A, {t} || {A | phi}", "t notin A; J = A & F; n in {t}; n in J"),
     unsat("Appendix A (38)", 948, "{x : {t} | phi} sub {t}", "J = {t} & F; n in J; n != t"),
     unsat("Appendix A (39)", 952, "{x : {t} | phi} = {t} <=> phi(t)", "J = {t} & F; J = {t}; t notin F").note("left without right"),
-    unsat("Appendix A (39)", 952, "{x : {t} | phi} = {t} <=> phi(t)", "t in F; J = {t} & F; J != {t}")
-        .direct("t in F; {t} != {t} & F").note("right without left"),
+    unsat("Appendix A (39)", 952, "{x : {t} | phi} = {t} <=> phi(t)", "t in F; J = {t} & F; J != {t}").note("right without left"),
 ];
 
 /// A constant of {log} that is not a number is a number here.
@@ -728,8 +644,7 @@ const MANUAL: &[Row] = &[
     sat("Section 3", 328, "among which X = 6, Y = 7, A = {8}", "{x, y | A} = {6, 7, 8}; x = 6; y = 7; A = {8}"),
     sat("Section 3", 332, "and X = 6, Y = 6, A = {6, 7, 8}", "{x, y | A} = {6, 7, 8}; x = 6; y = 6; 6 in A").solutions(&["A={6,7,8}"]),
     unsat("Table 1", 344, "strict subset: ssubset(A, B)", "A sub B; A != B; B sub A").note("A sub B and A != B"),
-    unsat("Table 1", 342, "difference: diff(A, B, C), C = A \\ B", "I = A & B; A = C + I; C || I; D = C & B; D != {}")
-        .direct("C = A - B; C overlaps B"),
+    unsat("Table 1", 342, "difference: diff(A, B, C), C = A \\ B", "I = A & B; A = C + I; C || I; D = C & B; D != {}"),
     sat("Section 3.1", 362, "inters({1}, {2}, A) answers A = {}", "A = {1} & {2}").solutions(&["A={}"]),
     sat("Section 3.2 (1)", 389, "x in A <=> exists B: A = {x} + B, x notin B", "x in A; A = {x | B}; x notin B; A = {1, 2, 3}")
         .solutions(&["x=1 B={2,3}", "x=2 B={1,3}", "x=3 B={1,2}"]).note("for A = {1, 2, 3}; the solutions are ours"),
@@ -782,8 +697,7 @@ const MANUAL: &[Row] = &[
     unsat("Section 9", 1512, "setmin({2, 5, -1, 9, 0}, M): M = -1", "S = {2, 5, -1, 9, 0}; 0 in S; S sub [0, 9]").note("M = 0"),
     sat("Section 9", 1537, "setmin({2, X, -1, 9, 0}, M): M = -1 with -1 =< X", "S = {2, x, -1, 9, 0}; -1 in S; S sub [-1, 9]; x in [-3, 1]")
         .solutions(&["x=-1", "x=0", "x=1"]).note("for X in [-3, 1]"),
-    unsat("Section 9", 1547, "setmin(S, M) & X in S & X < M: no", "3 in S; S sub [3, 6]; x in S; x in [0, 2]")
-        .direct("3 in S; S sub [3, 6]; S overlaps [0, 2]").note("M = 3"),
+    unsat("Section 9", 1547, "setmin(S, M) & X in S & X < M: no", "3 in S; S sub [3, 6]; x in S; x in [0, 2]").note("M = 3"),
     sat("Section 9", 1571, "ssucc({2, 5, -1, 9, 0}, 5, M): M = 9",
         "A = {2, 5, -1, 9, 0}; A = {5, 9 | B}; 5 notin B; 9 notin B; B = I + J; I || J; I sub [-1, 4]; J sub [10, 12]")
         .solutions(&["B={-1,0,2} I={-1,0,2} J={}"]).note("the solution is ours"),
@@ -792,8 +706,7 @@ const MANUAL: &[Row] = &[
     unsat("Section 9", 1571, "ssucc({2, 5, -1, 9, 0}, 5, M): M = 9",
         "A = {2, 5, -1, 9, 0}; A = {0, 5 | B}; 0 notin B; 5 notin B; B = I + J; I || J; I sub [-2, -1]; J sub [6, 9]").note("0 and 5: 2 is between them"),
     unsat("Section 9", 1592, "ssucc(S, X, Y) & Z in S & X < Z & Z < Y: no",
-        "S = {1, 4 | B}; 1 notin B; 4 notin B; B = I + J; I sub [-1, 0]; J sub [5, 6]; z in S; z in [2, 3]")
-        .direct("S = {1, 4 | B}; 1 notin B; 4 notin B; B = I + J; I sub [-1, 0]; J sub [5, 6]; S overlaps [2, 3]").note("X = 1, Y = 4"),
+        "S = {1, 4 | B}; 1 notin B; 4 notin B; B = I + J; I sub [-1, 0]; J sub [5, 6]; z in S; z in [2, 3]").note("X = 1, Y = 4"),
     unsat("Section 10", 1612, "un({a, 1, {2}, [5, b]}, {X}, {Y / R}): Y = a, R = {1, {2}, [5, b], X}, X neq a",
         "{y | R} = {1, 2, 3, 4} + {x}; y = 1; x != 1; 1 notin R; R != {2, 3, 4, x}").note("1 to 4 for the four elements"),
     sat("Section 10.1.2", 1711, "\"Pele\" nin {\"Messi\", \"Maradona\", \"Di Stefano\"}", "4 notin {1, 2, 3}").note("4 for the first name"),
@@ -804,19 +717,7 @@ const MANUAL: &[Row] = &[
     sat("Section 11", 2160, "X in {a, b} without cut returns X = a and X = b", "x in {1, 2}").solutions(&["x=1", "x=2"]).note("1 and 2 for a and b"),
 ];
 
-/// A detour by kinds 1 to 12, and the same by kinds 13 to 17.
-pub const DETOURS: [(&str, &str); 8] = [
-    ("I = A & B; A = C + I; C || I", "C = A - B"),
-    ("A = C + A; N = B + C; N = A + N; B || C", "C = A - B"),
-    ("D = A + B; C != D", "C != A + B"),
-    ("n in A; n in B", "A overlaps B"),
-    ("I = A & B; I != {}", "A overlaps B"),
-    ("n in A; n notin B", "A notsub B"),
-    ("D = A + B; D != B", "A notsub B"),
-    ("D = A & B; C != D", "C != A & B"),
-];
-
-/// What of each source the seventeen kinds cannot say.
+/// What of each source the twelve kinds cannot say.
 const UNWRITTEN: [(&str, &str); 5] = [
     ("000", "intervals with variable ends and sizes that are variables (rules and examples appear at chosen ends and sizes only); <=, < and + themselves; ninteger in (17); (28), (29), (33), (37), (38) as they stand; the interval as an element of a set of sets (line 69); Example 14 and the lemmas of Section 8.3"),
     ("001", "sizes that are variables: (8), (9), (11) to (13), (15), Example 3 to 8 beyond the chosen sizes; the third formula of Example 2 and size({{X}, {Y}}, N), which have sets in sets; x > y and x < y + 1; the mapping of Appendix B"),
@@ -834,17 +735,15 @@ fn cell(text: &str) -> String {
 pub fn document() -> String {
     let all = || SOURCES.iter().flat_map(|source| source.rows);
     let mut out = String::from(HEADING);
-    out += "\n| source | rows | FORMS | FALSE | rows where it is wrong | rows also written directly |\n";
-    out += "|---|---|---|---|---|---|\n";
+    out += "\n| source | rows | FORMS | FALSE | rows where it is wrong |\n|---|---|---|---|---|\n";
     let mut counted = |name: &str, rows: &[&Row]| {
         let count = |fits: fn(&Row) -> bool| rows.iter().filter(|row| fits(row)).count();
         out += &format!(
-            "| {name} | {} | {} | {} | {} | {} |\n",
+            "| {name} | {} | {} | {} | {} |\n",
             rows.len(),
             count(|row| row.satisfiable),
             count(|row| !row.satisfiable),
             count(|row| !row.wrong.is_empty()),
-            count(|row| row.direct.is_some()),
         );
     };
     for source in &SOURCES {
@@ -870,14 +769,13 @@ pub fn document() -> String {
                 notes.push(row.note.to_string());
             }
             out += &format!(
-                "| {}.{} | {} | {} | `{}` | `{}`{} | {} | {} |\n",
+                "| {}.{} | {} | {} | `{}` | `{}` | {} | {} |\n",
                 source.file,
                 at + 1,
                 cell(row.place),
                 row.line,
                 cell(row.says),
                 cell(row.text),
-                row.direct.map_or(String::new(), |text| format!("; directly `{}`", cell(text))),
                 if row.satisfiable { "FORMS" } else { "FALSE" },
                 cell(&notes.join("; ")),
             );
@@ -890,11 +788,7 @@ pub fn document() -> String {
             out += &format!("- {}.{}, {}, line {}: {}.\n", source.file, at + 1, row.place, row.line, row.wrong);
         }
     }
-    out += "\n## Detours\n\n| by kinds 1 to 12 | directly |\n|---|---|\n";
-    for (detour, direct) in DETOURS {
-        out += &format!("| `{}` | `{}` |\n", cell(detour), cell(direct));
-    }
-    out += "\n## What the seventeen kinds cannot say\n\n";
+    out += "\n## What the twelve kinds cannot say\n\n";
     for (file, what) in UNWRITTEN {
         out += &format!("- {file}: {what}.\n");
     }
@@ -909,16 +803,11 @@ Every row is run by the library and by the separate solver, which must agree in 
 every assignment over a domain that is large enough (src/models.rs).
 
 Notation: `{x | A}` is the source's {x ⊔ A}, `un(A, B, C)` is C = A ∪ B, `inters` and `diff` are ∩ and \\, \
-`+` is ∪, `&` is ∩, `-` is \\, `||` is disjointness, `overlaps` is its contrary, `sub` is ⊆, `notsub` is its contrary, \
-`->` is the source's rewriting. \
+`+` is ∪, `&` is ∩, `||` is disjointness, `sub` is ⊆, `->` is the source's rewriting. \
 In a problem a small letter is a number variable, a capital a set variable; `[1, 4]` is an interval. \
 A set that has no letter gets one: `B = {x | A}` is `Z = {x}; B = Z + A`, and so on (src/text.rs); \
 `papers whole` prints each problem with one statement a constraint.
 
 For a rule `left -> right`, \"left without right\" is a problem that asks for left and for the contrary of right, \
 and so on. The line is that of the source's file. The verdict is the meaning's.
-
-Where a row goes a detour for a difference or for a negated constraint, the same stands beside it as it is written \
-directly, by kinds 13 to 17. A test runs both and sees that verdict and solutions agree. The detours themselves \
-stand in a table below; of each, a test compares all solutions over a few numbers.
 ";

@@ -1,10 +1,9 @@
 //! Every row of the table in papers.rs, run and decided by meaning.
 
 use crate::check::Setting;
-use crate::coverage::kinds;
 use crate::generate::{Plan, Rng};
 use crate::models::Models;
-use crate::papers::{document, Row, DETOURS, SOURCES};
+use crate::papers::{document, Row, SOURCES};
 use crate::sheet::Sheet;
 use crate::text::Problem;
 use crate::{answer, ffi, solver};
@@ -39,13 +38,8 @@ fn plan_of(setting: &Setting) -> Plan {
     }
 }
 
-fn bytes_of(name: &str, text: &str) -> Vec<u8> {
-    Problem::read(text).unwrap_or_else(|fault| panic!("{name}: {fault}")).bytes()
-}
-
-/// Runs the row's problem as it is written in `text`.
-fn run_row(name: &str, row: &Row, text: &str, rng: &mut Rng) {
-    let bytes = bytes_of(name, text);
+fn run_row(name: &str, row: &Row, rng: &mut Rng) {
+    let bytes = Problem::read(row.text).unwrap_or_else(|fault| panic!("{name}: {fault}")).bytes();
     let sheet = Sheet::read(&bytes).unwrap_or_else(|number| panic!("{name}: refused, {number}"));
 
     // Both runs, all bytes.
@@ -111,61 +105,13 @@ fn run_row(name: &str, row: &Row, text: &str, rng: &mut Rng) {
     }
 }
 
-/// Sees that two problems have the same solutions in the letters that both
-/// name: over one domain, large enough for each, and `more` values. Answers how
-/// many.
-fn agree(name: &str, texts: [&str; 2], more: usize) -> usize {
-    let bytes = texts.map(|text| bytes_of(name, text));
-    let sheets = [0, 1].map(|at| Sheet::read(&bytes[at]).unwrap_or_else(|number| panic!("{name}: refused, {number}")));
-    let letters = |at: usize| sheets[at].names.iter().chain(sheets[at].sets);
-    let common: Vec<u8> = letters(0).filter(|&letter| letters(1).any(|other| other == letter)).copied().collect();
-    let [mut first, mut second] = sheets.each_ref().map(Models::of);
-    let mut both: BTreeSet<i32> = first.domain.iter().chain(&second.domain).copied().collect();
-    for _ in 0..more {
-        both.extend(both.last().map(|highest| highest + 1));
-    }
-    let most = 200_000;
-    let solutions = |sheet: &Sheet, models: &mut Models| -> BTreeSet<String> {
-        models.domain = both.iter().copied().collect();
-        let found = models.some(most);
-        assert!(found.len() < most, "{name}: too many solutions to compare");
-        found.iter().map(|model| shown(sheet, model, &common)).collect()
-    };
-    let [first, second] = [solutions(&sheets[0], &mut first), solutions(&sheets[1], &mut second)];
-    assert_eq!(first, second, "{name}: solutions in {:?}", String::from_utf8_lossy(&common));
-    first.len()
-}
-
 #[test]
 fn the_papers_examples() {
     let mut rng = Rng::new(7);
     for source in &SOURCES {
         for (at, row) in source.rows.iter().enumerate() {
-            let name = format!("{}.{}", source.file, at + 1);
-            run_row(&format!("{name} `{}`", row.text), row, row.text, &mut rng);
-            if let Some(direct) = row.direct {
-                let name = format!("{name} `{direct}`");
-                run_row(&name, row, direct, &mut rng);
-                assert_eq!(agree(&name, [row.text, direct], 0) > 0, row.satisfiable, "{name}");
-            }
+            run_row(&format!("{}.{} `{}`", source.file, at + 1, row.text), row, &mut rng);
         }
-    }
-}
-
-/// Each detour has the solutions of what stands beside it; kinds 13 to 17 all do.
-#[test]
-fn detours_say_the_same() {
-    for (detour, direct) in DETOURS {
-        let count = agree(&format!("`{detour}`, `{direct}`"), [detour, direct], 2);
-        assert!(count > 10, "`{direct}`: {count}");
-    }
-    for kind in 13..=17 {
-        let said = DETOURS.iter().any(|(_, direct)| {
-            let bytes = bytes_of(direct, direct);
-            let sheet = Sheet::read(&bytes).unwrap_or_else(|number| panic!("{direct}: refused, {number}"));
-            kinds(&bytes, &sheet) == [kind]
-        });
-        assert!(said, "no detour for kind {kind}");
     }
 }
 

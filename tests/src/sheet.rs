@@ -1,5 +1,4 @@
-//! Reading a sheet: questions 1 to 11 of document 01, in their order. Kinds 13
-//! to 17 are those of document 02, U1.
+//! Reading a sheet: questions 1 to 11 of document 01, in their order.
 
 pub const MAX_BYTES: usize = 4096;
 pub const MAX_SETS: usize = 8;
@@ -22,13 +21,6 @@ pub enum Line<'a> {
     Disjoint { a: usize, b: usize },
     Subset { a: usize, b: usize },
     Meet { a: usize, b: usize, c: usize },
-    /// `c` is `a` without `b`.
-    Without { a: usize, b: usize, c: usize },
-    /// Kinds 14 to 17 deny kinds 7 to 10; `w` is the line's witness.
-    NotUnion { a: usize, b: usize, c: usize, w: usize },
-    Overlap { a: usize, b: usize, w: usize },
-    NotSubset { a: usize, b: usize, w: usize },
-    NotMeet { a: usize, b: usize, c: usize, w: usize },
     /// Kind 11, and kind 12 with the constants i to j as entries.
     List { a: usize, entries: &'a [u8] },
 }
@@ -159,27 +151,27 @@ impl<'a> Sheet<'a> {
                     _ => Line::Differ { t: term(x[0])?, u: term(x[1])? },
                 }
             }
-            5 | 6 | 8 | 9 | 15 | 16 => {
+            5 | 6 | 8 | 9 => {
                 let x = reader.take(2)?;
                 let (a, b) = (set(x[0])?, set(x[1])?);
                 match kind {
                     5 => Line::Equal { a, b },
-                    6 => Line::Unequal { a, b, w: self.witness() },
+                    6 => {
+                        let w = self.terms;
+                        self.terms += 1;
+                        Line::Unequal { a, b, w }
+                    }
                     8 => Line::Disjoint { a, b },
-                    9 => Line::Subset { a, b },
-                    15 => Line::Overlap { a, b, w: self.witness() },
-                    _ => Line::NotSubset { a, b, w: self.witness() },
+                    _ => Line::Subset { a, b },
                 }
             }
-            7 | 10 | 13 | 14 | 17 => {
+            7 | 10 => {
                 let x = reader.take(3)?;
                 let (a, b, c) = (set(x[0])?, set(x[1])?, set(x[2])?);
-                match kind {
-                    7 => Line::Union { a, b, c },
-                    10 => Line::Meet { a, b, c },
-                    13 => Line::Without { a, b, c },
-                    14 => Line::NotUnion { a, b, c, w: self.witness() },
-                    _ => Line::NotMeet { a, b, c, w: self.witness() },
+                if kind == 7 {
+                    Line::Union { a, b, c }
+                } else {
+                    Line::Meet { a, b, c }
                 }
             }
             11 => {
@@ -210,13 +202,6 @@ impl<'a> Sheet<'a> {
             }
             _ => return Err(7),
         })
-    }
-
-    /// One more term, for the line that is read.
-    fn witness(&mut self) -> usize {
-        let w = self.terms;
-        self.terms += 1;
-        w
     }
 
     pub fn constants(&self) -> usize {

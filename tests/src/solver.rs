@@ -1,5 +1,4 @@
-//! The run: a sheet worked through the rules of document 01; rules 21 to 29 are
-//! those of document 02, U1.
+//! The run: a sheet worked through the rules of document 01.
 
 use crate::answer;
 use crate::sheet::{Line, Sheet, MAX_TERMS};
@@ -64,8 +63,7 @@ enum Act<'a> {
     Close,
     Note(u8, u8),
     Join(usize),
-    /// Each child's facts: in and out of these sets.
-    Cases(Vec<(u8, u8)>),
+    Cases([(u8, u8); 2]),
     JoinEach(&'a [u8]),
 }
 
@@ -138,11 +136,7 @@ fn first_forced<'a>(sheet: &Sheet<'a>, branch: &Branch) -> Option<Place<'a>> {
             }
             Line::Equal { a, b } => over_heads(5, (bit(a), 0), (bit(b), 0))
                 .or_else(|| over_heads(6, (bit(b), 0), (bit(a), 0))),
-            Line::Unequal { .. }
-            | Line::NotUnion { .. }
-            | Line::Overlap { .. }
-            | Line::NotSubset { .. }
-            | Line::NotMeet { .. } => None,
+            Line::Unequal { .. } => None,
             Line::Union { a, b, c } => over_heads(8, (bit(a), 0), (bit(c), 0))
                 .or_else(|| over_heads(9, (bit(b), 0), (bit(c), 0)))
                 .or_else(|| over_heads(10, (bit(c), bit(a)), (bit(b), 0)))
@@ -153,10 +147,6 @@ fn first_forced<'a>(sheet: &Sheet<'a>, branch: &Branch) -> Option<Place<'a>> {
             Line::Meet { a, b, c } => over_heads(16, (bit(c), 0), (bit(a), 0))
                 .or_else(|| over_heads(17, (bit(c), 0), (bit(b), 0)))
                 .or_else(|| over_heads(18, (bit(a) | bit(b), 0), (bit(c), 0))),
-            Line::Without { a, b, c } => over_heads(21, (bit(c), 0), (bit(a), 0))
-                .or_else(|| over_heads(22, (bit(c), 0), (0, bit(b))))
-                .or_else(|| over_heads(23, (bit(a), bit(b)), (bit(c), 0)))
-                .or_else(|| over_heads(24, (bit(a), bit(c)), (bit(b), 0))),
             Line::List { a, entries } => entries
                 .iter()
                 .map(|&entry| branch.head(entry as usize))
@@ -174,40 +164,25 @@ fn first_split<'a>(sheet: &Sheet<'a>, branch: &Branch) -> Option<Place<'a>> {
     let ins = &branch.ins[..sheet.terms];
     let outs = &branch.outs[..sheet.terms];
     for (line, &what) in sheet.lines.iter().enumerate() {
-        // The first head in a set, with two others undecided.
-        let undecided = |inside: u8, others: u8| {
-            ins.iter().zip(outs).position(|(&i, &o)| i & inside != 0 && (i | o) & others == 0)
-        };
-        // A split at a witness, unless some case is known already.
-        let at_witness = |rule: u8, w: usize, cases: Vec<(u8, u8)>| {
-            let head = branch.head(w);
-            let known = |&(i, o): &(u8, u8)| ins[head] & i == i && outs[head] & o == o;
-            (!cases.iter().any(known)).then_some(Place { rule, line, head, act: Act::Cases(cases) })
-        };
         let found = match what {
             Line::Unequal { a, b, w } => {
                 let (a, b) = (bit(a), bit(b));
-                at_witness(7, w, vec![(a, b), (b, a)])
+                let head = branch.head(w);
+                let parted = ins[head] & a != 0 && outs[head] & b != 0
+                    || outs[head] & a != 0 && ins[head] & b != 0;
+                (!parted).then_some(Place {
+                    rule: 7,
+                    line,
+                    head,
+                    act: Act::Cases([(a, b), (b, a)]),
+                })
             }
             Line::Union { a, b, c } => {
                 let (a, b, c) = (bit(a), bit(b), bit(c));
-                let cases = vec![(a, 0), (b, a)];
-                undecided(c, a | b).map(|head| Place { rule: 12, line, head, act: Act::Cases(cases) })
-            }
-            Line::Without { a, b, c } => {
-                let (a, b, c) = (bit(a), bit(b), bit(c));
-                let cases = vec![(b, 0), (c, b)];
-                undecided(a, b | c).map(|head| Place { rule: 25, line, head, act: Act::Cases(cases) })
-            }
-            Line::NotUnion { a, b, c, w } => {
-                let (a, b, c) = (bit(a), bit(b), bit(c));
-                at_witness(26, w, vec![(c, a | b), (a, c), (b, c)])
-            }
-            Line::Overlap { a, b, w } => at_witness(27, w, vec![(bit(a) | bit(b), 0)]),
-            Line::NotSubset { a, b, w } => at_witness(28, w, vec![(bit(a), bit(b))]),
-            Line::NotMeet { a, b, c, w } => {
-                let (a, b, c) = (bit(a), bit(b), bit(c));
-                at_witness(29, w, vec![(c, a), (c, b), (a | b, c)])
+                ins.iter()
+                    .zip(outs)
+                    .position(|(&i, &o)| i & c != 0 && (i | o) & (a | b) == 0)
+                    .map(|head| Place { rule: 12, line, head, act: Act::Cases([(a, 0), (b, a)]) })
             }
             Line::List { a, entries } => {
                 let mut entered = 0u64;
@@ -228,39 +203,22 @@ fn first_split<'a>(sheet: &Sheet<'a>, branch: &Branch) -> Option<Place<'a>> {
     None
 }
 
-/// A child of a split by cases, for the coverage.
-pub struct Child {
-    pub rule: u8,
-    /// From 1.
-    pub number: usize,
-    /// It contradicts.
-    pub dropped: bool,
-}
-
 /// Pushes the children of a split, the one to be worked first on top. Answers
 /// how many are left.
-fn split(
-    place: &Place,
-    branch: &Branch,
-    constants: usize,
-    stack: &mut Vec<Branch>,
-    children: &mut Vec<Child>,
-) -> u8 {
+fn split(place: &Place, branch: &Branch, constants: usize, stack: &mut Vec<Branch>) -> u8 {
     let bottom = stack.len();
-    match &place.act {
+    match place.act {
         Act::Cases(cases) => {
-            for (at, &(ins, outs)) in cases.iter().enumerate() {
+            for (ins, outs) in cases {
                 let mut child = *branch;
-                let open = child.note(place.head, ins, outs);
-                if open {
+                if child.note(place.head, ins, outs) {
                     stack.push(child);
                 }
-                children.push(Child { rule: place.rule, number: at + 1, dropped: !open });
             }
         }
         Act::JoinEach(entries) => {
             let mut seen = 0u64;
-            for &entry in *entries {
+            for &entry in entries {
                 let other = branch.head(entry as usize);
                 if seen >> other & 1 == 0 {
                     seen |= 1 << other;
@@ -288,17 +246,6 @@ fn write_form(branch: &Branch, record: &mut [u8]) {
 
 /// Works the sheet; answers the answer word.
 pub fn run(problem: &[u8], budget: u64, forms: &mut [u8], trace: &mut [u8]) -> u64 {
-    run_with(problem, budget, forms, trace, &mut Vec::new())
-}
-
-/// The same, and notes the children of the splits.
-pub fn run_with(
-    problem: &[u8],
-    budget: u64,
-    forms: &mut [u8],
-    trace: &mut [u8],
-    children: &mut Vec<Child>,
-) -> u64 {
     let sheet = match Sheet::read(problem) {
         Ok(sheet) => sheet,
         Err(number) => return answer::refused(number),
@@ -345,7 +292,7 @@ pub fn run_with(
                     let open = branch.join(place.head, other, constants);
                     (open, open as u8)
                 }
-                _ => (false, split(&place, &branch, constants, &mut stack, children)),
+                _ => (false, split(&place, &branch, constants, &mut stack)),
             };
             let at = 4 * steps as usize;
             trace[at..at + 4].copy_from_slice(&[place.rule, place.line as u8, place.head as u8, left]);

@@ -14,11 +14,6 @@
 //! | 10 | `C = A & B` |
 //! | 11 | `A = {x, 3}` |
 //! | 12 | `A = [1, 4]` |
-//! | 13 | `C = A - B` |
-//! | 14 | `C != A + B` |
-//! | 15 | `A overlaps B` |
-//! | 16 | `A notsub B` |
-//! | 17 | `C != A & B` |
 //!
 //! Where a set variable may stand, so may `{x, 3}`, `[1, 4]` or `{x, 3 | A}`.
 //! It gets an unused capital, from Z downwards, and its own constraints, which
@@ -36,26 +31,21 @@ enum Term {
     Variable(u8),
 }
 
-/// One constraint of the seventeen kinds; sets by their letters.
+/// One constraint of the twelve kinds; sets by their letters.
 enum Constraint {
     In(Term, u8),
     NotIn(Term, u8),
     Same(Term, Term),
     Differ(Term, Term),
-    /// A kind of `OF_TWO` and its two sets.
-    Two(u8, [u8; 2]),
-    /// A kind of `OF_THREE` and its three sets.
-    Three(u8, [u8; 3]),
+    Equal(u8, u8),
+    Unequal(u8, u8),
+    Union(u8, u8, u8),
+    Disjoint(u8, u8),
+    Subset(u8, u8),
+    Intersection(u8, u8, u8),
     List(u8, Vec<Term>),
     Interval(u8, i16, i16),
 }
-
-/// The kinds of two sets: what stands between A and B.
-const OF_TWO: [(u8, &str); 6] = [(5, "="), (6, "!="), (8, "||"), (9, "sub"), (15, "overlaps"), (16, "notsub")];
-
-/// The kinds of three sets: what stands between C and A, and between A and B.
-const OF_THREE: [(u8, &str, &str); 5] =
-    [(7, "=", "+"), (10, "=", "&"), (13, "=", "-"), (14, "!=", "+"), (17, "!=", "&")];
 
 /// A set as written.
 #[derive(Clone, PartialEq, Eq, PartialOrd, Ord)]
@@ -201,7 +191,7 @@ impl Parser {
         self.constraints.push(match (&set, parts) {
             (Written::List(entries), _) => Constraint::List(a, entries.clone()),
             (Written::Interval(low, high), _) => Constraint::Interval(a, *low, *high),
-            (_, Some((list, tail))) => Constraint::Three(7, [list, tail, a]),
+            (_, Some((list, tail))) => Constraint::Union(list, tail, a),
             _ => unreachable!(),
         });
         self.letters.insert(set, a);
@@ -231,38 +221,43 @@ impl Parser {
         }
 
         let left = self.set()?;
-        let between = match self.tokens.next() {
-            Some(Token::Sign(sign)) => sign.to_string(),
-            Some(Token::Word(word)) => word,
-            other => return Err(format!("between sets: {other:?}")),
-        };
+        let sign = self.tokens.next();
         let right = self.set()?;
-        for (kind, first, second) in OF_THREE {
-            if between == first && self.takes(second) {
+        if sign == Some(Token::Sign("=")) {
+            let sum = self.takes("+");
+            if sum || self.takes("&") {
                 let other = self.set()?;
                 let (a, b) = (self.letter(right)?, self.letter(other)?);
                 let c = self.letter(left)?;
-                self.constraints.push(Constraint::Three(kind, [a, b, c]));
+                self.constraints.push(if sum {
+                    Constraint::Union(a, b, c)
+                } else {
+                    Constraint::Intersection(a, b, c)
+                });
+                return Ok(());
+            }
+            if let (Written::Letter(a), right) = (&left, &right) {
+                let own = match right.clone() {
+                    Written::Letter(b) => Constraint::Equal(*a, b),
+                    Written::List(entries) => Constraint::List(*a, entries),
+                    Written::Interval(low, high) => Constraint::Interval(*a, low, high),
+                    Written::Tail(entries, tail) => {
+                        let list = self.letter(Written::List(entries))?;
+                        Constraint::Union(list, self.letter(*tail)?, *a)
+                    }
+                };
+                self.constraints.push(own);
                 return Ok(());
             }
         }
-        if let (Written::Letter(a), "=") = (&left, between.as_str()) {
-            let own = match right {
-                Written::Letter(b) => Constraint::Two(5, [*a, b]),
-                Written::List(entries) => Constraint::List(*a, entries),
-                Written::Interval(low, high) => Constraint::Interval(*a, low, high),
-                Written::Tail(entries, tail) => {
-                    let list = self.letter(Written::List(entries))?;
-                    Constraint::Three(7, [list, self.letter(*tail)?, *a])
-                }
-            };
-            self.constraints.push(own);
-            return Ok(());
-        }
         let (a, b) = (self.letter(left)?, self.letter(right)?);
-        let kind = OF_TWO.iter().find(|(_, text)| *text == between);
-        let (kind, _) = kind.ok_or_else(|| format!("between sets: {between}"))?;
-        self.constraints.push(Constraint::Two(*kind, [a, b]));
+        self.constraints.push(match sign {
+            Some(Token::Sign("=")) => Constraint::Equal(a, b),
+            Some(Token::Sign("!=")) => Constraint::Unequal(a, b),
+            Some(Token::Sign("||")) => Constraint::Disjoint(a, b),
+            Some(Token::Word(word)) if word == "sub" => Constraint::Subset(a, b),
+            other => return Err(format!("between sets: {other:?}")),
+        });
         Ok(())
     }
 }
@@ -311,8 +306,11 @@ impl Problem {
                 Constraint::In(_, a) | Constraint::NotIn(_, a) => sets.extend([a]),
                 Constraint::Same(..) | Constraint::Differ(..) => {}
                 Constraint::List(a, _) | Constraint::Interval(a, ..) => sets.extend([a]),
-                Constraint::Two(_, of) => sets.extend(of),
-                Constraint::Three(_, of) => sets.extend(of),
+                Constraint::Equal(a, b)
+                | Constraint::Unequal(a, b)
+                | Constraint::Disjoint(a, b)
+                | Constraint::Subset(a, b) => sets.extend([a, b]),
+                Constraint::Union(a, b, c) | Constraint::Intersection(a, b, c) => sets.extend([a, b, c]),
             }
         }
         sets
@@ -331,8 +329,12 @@ impl Problem {
             Constraint::NotIn(t, a) => vec![2, term(t), set(a)],
             Constraint::Same(t, u) => vec![3, term(t), term(u)],
             Constraint::Differ(t, u) => vec![4, term(t), term(u)],
-            Constraint::Two(kind, [a, b]) => vec![*kind, set(a), set(b)],
-            Constraint::Three(kind, [a, b, c]) => vec![*kind, set(a), set(b), set(c)],
+            Constraint::Equal(a, b) => vec![5, set(a), set(b)],
+            Constraint::Unequal(a, b) => vec![6, set(a), set(b)],
+            Constraint::Union(a, b, c) => vec![7, set(a), set(b), set(c)],
+            Constraint::Disjoint(a, b) => vec![8, set(a), set(b)],
+            Constraint::Subset(a, b) => vec![9, set(a), set(b)],
+            Constraint::Intersection(a, b, c) => vec![10, set(a), set(b), set(c)],
             Constraint::List(a, entries) => {
                 let mut line = vec![11, set(a), entries.len() as u8];
                 line.extend(entries.iter().map(term));
@@ -365,14 +367,12 @@ impl Problem {
                 Constraint::NotIn(t, a) => format!("{} notin {}", term(t), c(a)),
                 Constraint::Same(t, u) => format!("{} = {}", term(t), term(u)),
                 Constraint::Differ(t, u) => format!("{} != {}", term(t), term(u)),
-                Constraint::Two(kind, [a, b]) => {
-                    let (_, between) = OF_TWO.iter().find(|of| of.0 == *kind).unwrap();
-                    format!("{} {between} {}", c(a), c(b))
-                }
-                Constraint::Three(kind, [a, b, d]) => {
-                    let (_, first, second) = OF_THREE.iter().find(|of| of.0 == *kind).unwrap();
-                    format!("{} {first} {} {second} {}", c(d), c(a), c(b))
-                }
+                Constraint::Equal(a, b) => format!("{} = {}", c(a), c(b)),
+                Constraint::Unequal(a, b) => format!("{} != {}", c(a), c(b)),
+                Constraint::Union(a, b, d) => format!("{} = {} + {}", c(d), c(a), c(b)),
+                Constraint::Disjoint(a, b) => format!("{} || {}", c(a), c(b)),
+                Constraint::Subset(a, b) => format!("{} sub {}", c(a), c(b)),
+                Constraint::Intersection(a, b, d) => format!("{} = {} & {}", c(d), c(a), c(b)),
                 Constraint::List(a, entries) => {
                     let entries: Vec<String> = entries.iter().map(term).collect();
                     format!("{} = {{{}}}", c(a), entries.join(", "))
@@ -414,10 +414,6 @@ mod tests {
             "03 FE FF FF FF 01 00 01 78 05 41 42 43 44 45 07 \
              02 03 00 05 00 01 09 00 01 0A 00 01 02 0B 03 02 03 00 0C 04 02 01 03 02 03"
         );
-        assert_eq!(
-            hex("C = B - A; C != B + A; A overlaps B; B notsub A; A != C & B"),
-            "00 00 03 41 42 43 05 0D 01 00 02 0E 01 00 02 0F 00 01 10 01 00 11 02 01 00"
-        );
     }
 
     #[test]
@@ -428,17 +424,12 @@ mod tests {
             "Z = {x, 1}; Y = Z + A; X = [1, 2]; Y = Y + X; A || Z"
         );
         assert_eq!(whole("B = {x | A}; B != {x | Z}"), "Y = {x}; B = Y + A; X = Y + Z; B != X");
-        let all = "C = A - B; C != A + B; A overlaps B; A notsub B; C != A & B";
-        assert_eq!(whole(all), all);
-        assert_eq!(whole("[1, 2] != A + {x}"), "Z = {x}; Y = [1, 2]; Y != A + Z");
-        assert_eq!(whole("A = {-1} - B; {x} notsub A"), "Z = {-1}; A = Z - B; Y = {x}; Y notsub A");
         assert_eq!(whole("{x | {y | A}} sub A"), "Z = {x}; Y = {y}; X = Y + A; W = Z + X; W sub A");
     }
 
     #[test]
     fn what_is_not_a_problem() {
-        for text in ["", "x", "x in", "x in A;", "A = x", "A | B", "[x, 3] = A", "{x = A", "x is A", "A = B + ",
-            "A != B - C", "A = B - 1", "A overlap B", "A notin B", "A sub B + C", "x overlaps A"] {
+        for text in ["", "x", "x in", "x in A;", "A = x", "A | B", "[x, 3] = A", "{x = A", "x is A", "A = B + "] {
             assert!(Problem::read(text).is_err(), "{text}");
         }
     }

@@ -129,9 +129,9 @@ fn read_constraint(reader: &mut Reader, problem: &Problem) -> Result<Constraint,
     use Constraint::*;
     let kind = reader.byte("kind")?;
     let count = match kind {
-        1..=6 | 8 | 9 | 11 | 15 | 16 => 2,
-        7 | 10 | 12..=14 | 17 => 3,
-        _ => return refuse(7, format!("kind {kind}, but kinds are 1 to 17")),
+        1..=6 | 8 | 9 | 11 => 2,
+        7 | 10 | 12 => 3,
+        _ => return refuse(7, format!("kind {kind}, but kinds are 1 to 12")),
     };
     let operands = reader.take(count, "operands")?;
     let entries = match kind {
@@ -159,7 +159,7 @@ fn read_constraint(reader: &mut Reader, problem: &Problem) -> Result<Constraint,
         9 => Subset(set(0)?, set(1)?),
         10 => Intersection(set(0)?, set(1)?, set(2)?),
         11 => List(set(0)?, entries.iter().map(|&byte| term_of(byte)).collect::<Result<_, _>>()?),
-        12 => {
+        _ => {
             let (a, first, last) = (set(0)?, term(1)?, term(2)?);
             let (Term::Number(i), Term::Number(j)) = (first, last) else {
                 return refuse(9, "a variable stands as the end of an interval");
@@ -173,10 +173,5 @@ fn read_constraint(reader: &mut Reader, problem: &Problem) -> Result<Constraint,
             }
             Interval(a, i, j)
         }
-        13 => Difference(set(0)?, set(1)?, set(2)?),
-        14 => Nonunion(set(0)?, set(1)?, set(2)?),
-        15 => Overlap(set(0)?, set(1)?),
-        16 => Nonsubset(set(0)?, set(1)?),
-        _ => Nonintersection(set(0)?, set(1)?, set(2)?),
     })
 }

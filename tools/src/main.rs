@@ -21,7 +21,7 @@ fn usage() -> String {
 }
 
 /// Whether this is no text. All bytes of problems have one below 9: the 0 of no constraints, a kind,
-/// or the set's number after a kind from 9 to 17.
+/// or the set's number after a kind from 9 to 12.
 fn not_text(input: &[u8]) -> bool {
     input.iter().any(|&byte| byte < 9)
 }

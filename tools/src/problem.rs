@@ -27,7 +27,7 @@ pub enum Term {
 #[derive(Clone, Copy, Debug, PartialEq, Eq, PartialOrd, Ord)]
 pub struct Set(pub char);
 
-/// The seventeen kinds, with their operands in the customer's order.
+/// The twelve kinds, with their operands in document 01's order.
 #[derive(Clone, Debug, PartialEq)]
 pub enum Constraint {
     In(Term, Set),
@@ -44,15 +44,6 @@ pub enum Constraint {
     Intersection(Set, Set, Set),
     List(Set, Vec<Term>),
     Interval(Set, i16, i16),
-    /// The third set is the first without the second.
-    Difference(Set, Set, Set),
-    /// The third set is not the union of the first two.
-    Nonunion(Set, Set, Set),
-    /// The two are not disjoint.
-    Overlap(Set, Set),
-    Nonsubset(Set, Set),
-    /// The third set is not the intersection of the first two.
-    Nonintersection(Set, Set, Set),
 }
 
 /// What one operand byte stands for.
@@ -85,11 +76,6 @@ impl Constraint {
                 (11, operands)
             }
             Interval(a, i, j) => (12, vec![set(a), number(i), number(j)]),
-            Difference(a, b, c) => (13, vec![set(a), set(b), set(c)]),
-            Nonunion(a, b, c) => (14, vec![set(a), set(b), set(c)]),
-            Overlap(a, b) => (15, vec![set(a), set(b)]),
-            Nonsubset(a, b) => (16, vec![set(a), set(b)]),
-            Nonintersection(a, b, c) => (17, vec![set(a), set(b), set(c)]),
         }
     }
 }
@@ -133,10 +119,9 @@ impl Problem {
         self.terms.iter().filter(|t| matches!(t, Term::Number(_))).count()
     }
 
-    /// One for each constraint of kind 6 and 14 to 17.
+    /// One for each `A != B`.
     pub fn witnesses(&self) -> usize {
-        let kind = |c: &Constraint| c.kind_and_operands().0;
-        self.constraints.iter().filter(|c| matches!(kind(c), 6 | 14..=17)).count()
+        self.constraints.iter().filter(|c| matches!(c, Constraint::Unequal(..))).count()
     }
 
     /// Says which limit is passed, if one is.
@@ -148,8 +133,7 @@ impl Problem {
         at_most(MAX_TERMS, constants + variables + witnesses, "terms").map_err(|why| {
             format!(
                 "{why}: there are {constants} numbers, {variables} variables \
-                 and {witnesses} witnesses (one for each line A != B, C != A + B, C != A & B, \
-                 A overlaps B or A not subset B)"
+                 and {witnesses} witnesses (one for each A != B)"
             )
         })?;
         let operands = |c: &Constraint| c.kind_and_operands().1.len();

@@ -7,8 +7,7 @@ use crate::problem::*;
 use std::fmt;
 
 pub const FORMS: &str = "  x in A, x not in A, x = y, x != y (x and y may be numbers)
-  A = B, C = A + B (union), C = A & B (intersection), C = A - B (difference)
-  A != B, C != A + B, C != A & B, A disjoint B, A overlaps B, A subset B, A not subset B
+  A = B, A != B, C = A + B (union), C = A & B (intersection), A disjoint B, A subset B
   A = {3, x}, A = {}, A = [3, 6] (all whole numbers from 3 to 6)
   numbers 3 -4, variables x y, sets A B (what no other line mentions)";
 
@@ -46,11 +45,6 @@ impl fmt::Display for Constraint {
                 write!(f, "{a} = {{{}}}", entries.join(", "))
             }
             Interval(a, i, j) => write!(f, "{a} = [{i}, {j}]"),
-            Difference(a, b, c) => write!(f, "{c} = {a} - {b}"),
-            Nonunion(a, b, c) => write!(f, "{c} != {a} + {b}"),
-            Overlap(a, b) => write!(f, "{a} overlaps {b}"),
-            Nonsubset(a, b) => write!(f, "{a} not subset {b}"),
-            Nonintersection(a, b, c) => write!(f, "{c} != {a} & {b}"),
         }
     }
 }
@@ -218,17 +212,10 @@ impl<'a> Line<'a> {
         } else if let Some(a) = self.as_set() {
             match self.take() {
                 "=" => self.set_equals(a)?,
-                "!=" => self.set_differs(a)?,
+                "!=" => Unequal(a, self.set()?),
                 "disjoint" => Disjoint(a, self.set()?),
-                "overlaps" => Overlap(a, self.set()?),
                 "subset" => Subset(a, self.set()?),
-                "not" => {
-                    self.expect("subset")?;
-                    Nonsubset(a, self.set()?)
-                }
-                _ => {
-                    return self.fail("`=`, `!=`, `disjoint`, `overlaps`, `subset` or `not subset`")
-                }
+                _ => return self.fail("`=`, `!=`, `disjoint` or `subset`"),
             }
         } else {
             return self.fail(
@@ -261,22 +248,9 @@ impl<'a> Line<'a> {
                     "" => Ok(Equal(c, a)),
                     "+" => Ok(Union(a, self.set()?, c)),
                     "&" => Ok(Intersection(a, self.set()?, c)),
-                    "-" => Ok(Difference(a, self.set()?, c)),
-                    _ => self.fail("`+`, `&`, `-` or the end of the line"),
+                    _ => self.fail("`+`, `&` or the end of the line"),
                 }
             }
-        }
-    }
-
-    /// What follows `c !=` for a set c.
-    fn set_differs(&mut self, c: Set) -> Result<Constraint, String> {
-        use Constraint::*;
-        let a = self.set()?;
-        match self.take() {
-            "" => Ok(Unequal(c, a)),
-            "+" => Ok(Nonunion(a, self.set()?, c)),
-            "&" => Ok(Nonintersection(a, self.set()?, c)),
-            _ => self.fail("`+`, `&` or the end of the line"),
         }
     }
 

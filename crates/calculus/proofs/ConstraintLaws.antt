@@ -99,7 +99,7 @@ module _ (prob : Problem) (v w : Valuation) (nums : (t : Term) → t.index < nam
   meaning_same (same t u) a = λ i. nums t a.0 i ≡ nums u a.1 i
   meaning_same (different t u) a = λ i. ¬ (nums t a.0 i ≡ nums u a.1 i)
   meaning_same (relation k A B C) a = λ i. Relates k (sets A a.0 i) (sets B a.1 i) (sets C a.2 i)
-  meaning_same (negation k A B C u) a = λ i. ¬ Relates (denies k) (sets A a.0 i) (sets B a.1 i) (sets C a.2 i)
+  meaning_same (negation k A B C u) a = λ i. ¬ Relates (denies k) (sets A a.0 i) (sets B a.1 i) (sets C (subst (λ (X : SetVar). X.index < set_count prob) (sym a.2) a.0) i)
   meaning_same (exactly A es) a = λ i. (x : ℤ) → x ∈ sets A a.0 i ↔ x ∈ images_same es a.1 i
   meaning_same (interval A j k es) a = λ i. (x : ℤ) → x ∈ sets A a.0 i ↔ ((nums j (omega (arith, a.1)) i ≤ℤ x) × (x ≤ℤ nums k (omega (arith, a.2)) i))
 
@@ -121,7 +121,7 @@ module _ (prob : Problem) (acc : Valid prob) where
   constraint_in (same t u) w a e q = (wide t.index a.0, wide u.index a.1)
   constraint_in (different t u) w a e q = (wide t.index a.0, wide u.index a.1)
   constraint_in (relation k A B C) w a e q = (a.0, a.1, a.2)
-  constraint_in (negation k A B C u) w a e q = ((a.0, a.1, a.2), omega arith)
+  constraint_in (negation k A B C u) w a e q = ((a.0, a.1, subst (λ (X : SetVar). X.index < set_count prob) (sym a.2) a.0), omega arith)
   constraint_in (exactly A es) w a e q = (a.0, each_imp (λ t. t.index < nameable prob) (λ t. t.index < term_count prob) es (λ t l. wide t.index l) a.1)
   constraint_in (interval A i j es) w a e q = (a.0, rw a.4 (terms_each (λ t. t.index < term_count prob) i.index (suc j.index - i.index) (λ t l h. omega (arith, a.1, a.2))))
 

@@ -10,7 +10,7 @@ use lib.IntN.{ℤ}
 use borrow.Author.Tests.{ltb-true, lt-ltb}
 use Rattle.calculus.specs.Lists.{all, Each, gather}
 use Rattle.calculus.specs.Terms.{Term, SetVar, term, set_var}
-use Rattle.calculus.specs.Relations.{Relation, equal, union, disjoint, subset, intersection, difference, Negation, unequal, nonunion, overlap, nonsubset, nonintersection}
+use Rattle.calculus.specs.Relations.{Relation, equal, union, disjoint, subset, intersection, unequal}
 use Rattle.calculus.specs.Meaning.{Constraint, member, nonmember, same, different, relation, negation, exactly, interval}
 use Rattle.calculus.specs.Problem.{Rising, entries, Refers, uses, Tied, Numbered}
 use Rattle.calculus.specs.Encoding.{encode_constraint}
@@ -106,11 +106,8 @@ module _ (cs : List ℤ) (N S : ℕ) (up : Rising cs) (known : length cs ≤ N) 
   abbrev repeat : Relation → ℕ → ℕ → Constraint
   repeat k x y = relation k (set_var x) (set_var y) (set_var x)
 
-  abbrev denial : Negation → ℕ → ℕ → Constraint
-  denial k x y = negation k (set_var x) (set_var y) (set_var x) (term w)
-
-  abbrev denial₃ : Negation → SetVar → SetVar → SetVar → Constraint
-  denial₃ k A B C = negation k A B C (term w)
+  abbrev denial : ℕ → ℕ → Constraint
+  denial x y = negation unequal (set_var x) (set_var y) (set_var x) (term w)
 
   abbrev forms : List Form
   forms =
@@ -120,18 +117,13 @@ module _ (cs : List ℤ) (N S : ℕ) (up : Rising cs) (known : length cs ≤ N) 
       ∷ Two cs N S N N (terms same)
       ∷ Two cs N S N N (terms different)
       ∷ Two cs N S S S (repeat equal)
-      ∷ Two cs N S S S (denial unequal)
+      ∷ Two cs N S S S denial
       ∷ Three cs N S (relation union)
       ∷ Two cs N S S S (repeat disjoint)
       ∷ Two cs N S S S (repeat subset)
       ∷ Three cs N S (relation intersection)
       ∷ Listed cs N S
       ∷ Spanned cs N S
-      ∷ Three cs N S (relation difference)
-      ∷ Three cs N S (denial₃ nonunion)
-      ∷ Two cs N S S S (denial overlap)
-      ∷ Two cs N S S S (denial nonsubset)
-      ∷ Three cs N S (denial₃ nonintersection)
       ∷ []
 
   -- the forms and the parsers, side by side, from kind k up
@@ -148,18 +140,13 @@ module _ (cs : List ℤ) (N S : ℕ) (up : Rising cs) (known : length cs ≤ N) 
       ▸ two_kind 3 N N (terms same) (λ x y p q. (refl, (p, q), tt))
       ▸ two_kind 4 N N (terms different) (λ x y p q. (refl, (p, q), tt))
       ▸ two_kind 5 S S (repeat equal) (λ x y p q. (refl, (p, q, p, refl), tt))
-      ▸ two_kind 6 S S (denial unequal) (λ x y p q. (refl, (p, q, p, refl), refl))
+      ▸ two_kind 6 S S denial (λ x y p q. (refl, (p, q, refl), refl))
       ▸ three_kind 7 (relation union) (λ A B C p q r. (refl, (p, q, r, tt), tt))
       ▸ two_kind 8 S S (repeat disjoint) (λ x y p q. (refl, (p, q, p, refl), tt))
       ▸ two_kind 9 S S (repeat subset) (λ x y p q. (refl, (p, q, p, refl), tt))
       ▸ three_kind 10 (relation intersection) (λ A B C p q r. (refl, (p, q, r, tt), tt))
       ▸ list_kind
       ▸ interval_kind
-      ▸ three_kind 13 (relation difference) (λ A B C p q r. (refl, (p, q, r, tt), tt))
-      ▸ three_kind 14 (denial₃ nonunion) (λ A B C p q r. (refl, (p, q, r, tt), refl))
-      ▸ two_kind 15 S S (denial overlap) (λ x y p q. (refl, (p, q, p, refl), refl))
-      ▸ two_kind 16 S S (denial nonsubset) (λ x y p q. (refl, (p, q, p, refl), refl))
-      ▸ three_kind 17 (denial₃ nonintersection) (λ A B C p q r. (refl, (p, q, r, tt), refl))
       ▸ end
 
   table_at : (k : ℕ) (Fs : List Form) (ps : List Parser) → Table k Fs ps → (j : ℕ) → Kind (k + j) (get_or Fs j Never) (get_or ps j (refuse 7))
@@ -181,29 +168,18 @@ module _ (cs : List ℤ) (N S : ℕ) (up : Rising cs) (known : length cs ≤ N) 
   abbrev Formed : Constraint → Type 0
   Formed l = (k : ℕ) × (v : List ℕ) × (encode_constraint l ≡ k ∷ v) × get_or forms k Never l v
 
-  -- the third operand repeats the first, and the witness is the next one
-  repeated : (l : SetVar → Constraint) (A C : SetVar) → C ≡ A → Formed (l A) → Formed (l C)
-  repeated l A C e = subst (λ (D : SetVar). Formed (l D)) (sym e)
-
-  tied : (k : Negation) (A B C : SetVar) (u : Term) → u.index ≡ w → Formed (negation k A B C (term w)) → Formed (negation k A B C u)
-  tied k A B C u q = subst (λ (n : ℕ). Formed (negation k A B C (term n))) (sym q)
-
   formed : (l : Constraint) → Refers cs N S l → Tied w l → Formed l
   formed (member t A) r q = (1, t.index ∷ A.index ∷ [], refl, two_of N S (term_set member) t.index A.index r.0 r.1)
   formed (nonmember t A) r q = (2, t.index ∷ A.index ∷ [], refl, two_of N S (term_set nonmember) t.index A.index r.0 r.1)
   formed (same t u) r q = (3, t.index ∷ u.index ∷ [], refl, two_of N N (terms same) t.index u.index r.0 r.1)
   formed (different t u) r q = (4, t.index ∷ u.index ∷ [], refl, two_of N N (terms different) t.index u.index r.0 r.1)
-  formed (relation equal A B C) r q = repeated (relation equal A B) A C r.3 (5, A.index ∷ B.index ∷ [], refl, two_of S S (repeat equal) A.index B.index r.0 r.1)
-  formed (relation disjoint A B C) r q = repeated (relation disjoint A B) A C r.3 (8, A.index ∷ B.index ∷ [], refl, two_of S S (repeat disjoint) A.index B.index r.0 r.1)
-  formed (relation subset A B C) r q = repeated (relation subset A B) A C r.3 (9, A.index ∷ B.index ∷ [], refl, two_of S S (repeat subset) A.index B.index r.0 r.1)
+  formed (relation equal A B C) r q = subst (λ (D : SetVar). Formed (relation equal A B D)) (sym r.3) (5, A.index ∷ B.index ∷ [], refl, two_of S S (repeat equal) A.index B.index r.0 r.1)
   formed (relation union A B C) r q = (7, A.index ∷ B.index ∷ C.index ∷ [], refl, three_of (relation union) A B C r.0 r.1 r.2)
+  formed (relation disjoint A B C) r q = subst (λ (D : SetVar). Formed (relation disjoint A B D)) (sym r.3) (8, A.index ∷ B.index ∷ [], refl, two_of S S (repeat disjoint) A.index B.index r.0 r.1)
+  formed (relation subset A B C) r q = subst (λ (D : SetVar). Formed (relation subset A B D)) (sym r.3) (9, A.index ∷ B.index ∷ [], refl, two_of S S (repeat subset) A.index B.index r.0 r.1)
   formed (relation intersection A B C) r q = (10, A.index ∷ B.index ∷ C.index ∷ [], refl, three_of (relation intersection) A B C r.0 r.1 r.2)
-  formed (relation difference A B C) r q = (13, A.index ∷ B.index ∷ C.index ∷ [], refl, three_of (relation difference) A B C r.0 r.1 r.2)
-  formed (negation unequal A B C u) r q = repeated (λ D. negation unequal A B D u) A C r.3 (tied unequal A B A u q (6, A.index ∷ B.index ∷ [], refl, two_of S S (denial unequal) A.index B.index r.0 r.1))
-  formed (negation overlap A B C u) r q = repeated (λ D. negation overlap A B D u) A C r.3 (tied overlap A B A u q (15, A.index ∷ B.index ∷ [], refl, two_of S S (denial overlap) A.index B.index r.0 r.1))
-  formed (negation nonsubset A B C u) r q = repeated (λ D. negation nonsubset A B D u) A C r.3 (tied nonsubset A B A u q (16, A.index ∷ B.index ∷ [], refl, two_of S S (denial nonsubset) A.index B.index r.0 r.1))
-  formed (negation nonunion A B C u) r q = tied nonunion A B C u q (14, A.index ∷ B.index ∷ C.index ∷ [], refl, three_of (denial₃ nonunion) A B C r.0 r.1 r.2)
-  formed (negation nonintersection A B C u) r q = tied nonintersection A B C u q (17, A.index ∷ B.index ∷ C.index ∷ [], refl, three_of (denial₃ nonintersection) A B C r.0 r.1 r.2)
+  formed (negation unequal A B C u) r q = subst (λ (D : SetVar). Formed (negation unequal A B D u)) (sym r.2)
+      (subst (λ (n : ℕ). Formed (negation unequal A B A (term n))) (sym q) (6, A.index ∷ B.index ∷ [], refl, two_of S S denial A.index B.index r.0 r.1))
   formed (exactly A es) r q =
       let xs : List ℕ = map (λ (e : Term). e.index) es in
       let t : all (λ e. ltb e N) xs ≡ true = all_each (λ e. ltb e N) xs (each_map (λ x. ltb x N ≡ true) (λ (e : Term). e.index) es (each_imp (λ (e : Term). e.index < N) (λ (e : Term). ltb e.index N ≡ true) es (λ e l. lt-ltb e.index N l) r.1)) in (

@@ -13,7 +13,7 @@ use borrow.Author.Tests.{leb-true, leb-false, le-leb, lt-leb}
 use Rattle.calculus.specs.Limits.{most_bytes, most_sets, most_constraints, most_terms}
 use Rattle.calculus.specs.Lists.{Each, gather}
 use Rattle.calculus.specs.Terms.{term}
-use Rattle.calculus.specs.Relations.{unequal, nonunion, overlap, nonsubset, nonintersection}
+use Rattle.calculus.specs.Relations.{unequal}
 use Rattle.calculus.specs.Meaning.{Constraint, member, nonmember, same, different, relation, negation, exactly, interval}
 use Rattle.calculus.specs.Problem.{Rising, Letters, Refers, uses, Tied, Numbered}
 use Rattle.calculus.specs.Encoding.{Bytes, two_bytes, encode_constraint, Fits16}
@@ -40,10 +40,6 @@ module _ (cs : List ℤ) (N S : ℕ) where
   retie w (different t u) r = (different t u, refl, r, tt, refl)
   retie w (relation k A B C) r = (relation k A B C, refl, r, tt, refl)
   retie w (negation unequal A B C u) r = (negation unequal A B C (term w), refl, r, refl, refl)
-  retie w (negation nonunion A B C u) r = (negation nonunion A B C (term w), refl, r, refl, refl)
-  retie w (negation overlap A B C u) r = (negation overlap A B C (term w), refl, r, refl, refl)
-  retie w (negation nonsubset A B C u) r = (negation nonsubset A B C (term w), refl, r, refl, refl)
-  retie w (negation nonintersection A B C u) r = (negation nonintersection A B C (term w), refl, r, refl, refl)
   retie w (exactly A es) r = (exactly A es, refl, r, tt, refl)
   retie w (interval A i j es) r = (interval A i j es, refl, r, tt, refl)
 

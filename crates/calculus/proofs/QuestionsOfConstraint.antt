@@ -10,9 +10,9 @@ use lib.Dec.{ltb}
 use lib.IntN.{ℤ}
 use borrow.Author.Tests.{ltb-true, lt-ltb}
 use Rattle.calculus.specs.Lists.{all}
-use Rattle.calculus.specs.Terms.{SetVar, term}
-use Rattle.calculus.specs.Relations.{union, intersection, difference, nonunion, nonintersection}
-use Rattle.calculus.specs.Meaning.{Constraint, relation, negation}
+use Rattle.calculus.specs.Terms.{SetVar}
+use Rattle.calculus.specs.Relations.{union, intersection}
+use Rattle.calculus.specs.Meaning.{Constraint, relation}
 use Rattle.calculus.specs.Problem.{Rising}
 use Rattle.calculus.specs.Reading.{Parser, refused, gapless, refuse, two, three, of_list, of_interval, kinds, constraint}
 use Rattle.calculus.specs.Questions.{Sort, a_term, aSet, aCount, operand_table, operands, Names, OfConstraint, kind_missing, no_kind, operands_missing, names_nothing, not_filled}
@@ -46,12 +46,12 @@ module _ (cs : List ℤ) (N S : ℕ) where
         to h (suc zero) l = (names t q c (get_or xs 1 0)).0 (and_r (ltb (get_or xs 0 0) p) (ltb (get_or xs 1 0) q) h)
         to h (suc (suc i)) l = absurd (omega arith)
 
-    two_stops : (k : ℕ) → (1 ≤ k) × (k ≤ 17) × ¬ (k ≡ 12) → ((bs : List ℕ) → operands k bs ≡ s ∷ t ∷ []) → (make : ℕ → ℕ → Constraint) → Stops (At cs N S k) (two cs N S p q make)
+    two_stops : (k : ℕ) → (1 ≤ k) × (k < 12) → ((bs : List ℕ) → operands k bs ≡ s ∷ t ∷ []) → (make : ℕ → ℕ → Constraint) → Stops (At cs N S k) (two cs N S p q make)
     two_stops k kind shape make = same_saying (At cs N S k) (fixed_at cs N S k _ (s ∷ t ∷ []) shape test₂ (λ _. Never) right) (at_fixed cs N S k _ (s ∷ t ∷ []) shape test₂ (λ _. Never) right)
         (after_stops _ byte_reads byte_stops (λ x. after_stops _ byte_reads byte_stops (λ y. asking_stops 8 _ (λ _ _. never_stops _))))
       where
-        right : Right cs N S k (kind.0, kind.1) (s ∷ t ∷ []) shape test₂ (λ _. Never)
-        right = record { tested = tested₂; goes_on = λ xs rest n e q h. absurd h; came_from = λ A i j rest z. absurd (kind.2 z) }
+        right : Right cs N S k (kind.0, omega (arith, kind.1)) (s ∷ t ∷ []) shape test₂ (λ _. Never)
+        right = record { tested = tested₂; goes_on = λ xs rest n e q h. absurd h; came_from = λ A i j rest z. absurd (omega (arith, kind.1)) }
 
   module _ {s t u : Sort} {p q r : ℕ} (b : Below s p) (c : Below t q) (d : Below u r) where
     abbrev test₃ : List ℕ → Bool
@@ -66,15 +66,15 @@ module _ (cs : List ℤ) (N S : ℕ) where
         to h g (suc (suc zero)) l = (names u r d (get_or xs 2 0)).0 (and_r (ltb (get_or xs 0 0) p && ltb (get_or xs 1 0) q) (ltb (get_or xs 2 0) r) h)
         to h g (suc (suc (suc i))) l = absurd (omega arith)
 
-  three_stops : (k : ℕ) → (1 ≤ k) × (k ≤ 17) × ¬ (k ≡ 12) → ((bs : List ℕ) → operands k bs ≡ aSet ∷ aSet ∷ aSet ∷ []) → (make : SetVar → SetVar → SetVar → Constraint) → Stops (At cs N S k) (three cs N S make)
+  three_stops : (k : ℕ) → (1 ≤ k) × (k < 12) → ((bs : List ℕ) → operands k bs ≡ aSet ∷ aSet ∷ aSet ∷ []) → (make : SetVar → SetVar → SetVar → Constraint) → Stops (At cs N S k) (three cs N S make)
   three_stops k kind shape make = same_saying (At cs N S k) (fixed_at cs N S k _ _ shape test (λ _. Never) right) (at_fixed cs N S k _ _ shape test (λ _. Never) right)
       (after_stops _ byte_reads byte_stops (λ x. after_stops _ byte_reads byte_stops (λ y. after_stops _ byte_reads byte_stops (λ z. asking_stops 8 _ (λ _ _. never_stops _)))))
     where
       test : List ℕ → Bool
       test = test₃ below_sets below_sets below_sets
 
-      right : Right cs N S k (kind.0, kind.1) (aSet ∷ aSet ∷ aSet ∷ []) shape test (λ _. Never)
-      right = record { tested = tested₃ below_sets below_sets below_sets; goes_on = λ xs rest n e q h. absurd h; came_from = λ A i j rest z. absurd (kind.2 z) }
+      right : Right cs N S k (kind.0, omega (arith, kind.1)) (aSet ∷ aSet ∷ aSet ∷ []) shape test (λ _. Never)
+      right = record { tested = tested₃ below_sets below_sets below_sets; goes_on = λ xs rest n e q h. absurd h; came_from = λ A i j rest z. absurd (omega (arith, kind.1)) }
 
   -- a set, a count and that many terms
   abbrev Listed : Saying
@@ -167,7 +167,7 @@ module _ (cs : List ℤ) (N S : ℕ) where
 
     -- ---- the kinds
 
-    no_kind_stops : (k : ℕ) → ¬ ((1 ≤ k) × (k ≤ 17)) → ((bs : List ℕ) → operands k bs ≡ []) → Stops (At cs N S k) (refuse 7)
+    no_kind_stops : (k : ℕ) → ¬ ((1 ≤ k) × (k ≤ 12)) → ((bs : List ℕ) → operands k bs ≡ []) → Stops (At cs N S k) (refuse 7)
     no_kind_stops k h none = record { says = λ rest n e. let z : 7 ≡ n = cc in subst (At cs N S k rest) z (no_kind k rest h); does = λ rest n g. does rest n (case cs N S k rest n g) }
       where
         does : (rest : List ℕ) (n : ℕ) → Case cs N S k rest n → refuse 7 rest ≡ refused n
@@ -191,23 +191,18 @@ module _ (cs : List ℤ) (N S : ℕ) where
       rows : Rows 0 (kinds cs N S w)
       rows =
           no_kind_stops 0 (λ h. omega (arith, h.0)) (λ _. refl)
-          ▸ two_stops below_terms below_sets 1 (omega arith, omega arith, λ z. omega arith) (λ _. refl) _
-          ▸ two_stops below_terms below_sets 2 (omega arith, omega arith, λ z. omega arith) (λ _. refl) _
-          ▸ two_stops below_terms below_terms 3 (omega arith, omega arith, λ z. omega arith) (λ _. refl) _
-          ▸ two_stops below_terms below_terms 4 (omega arith, omega arith, λ z. omega arith) (λ _. refl) _
-          ▸ two_stops below_sets below_sets 5 (omega arith, omega arith, λ z. omega arith) (λ _. refl) _
-          ▸ two_stops below_sets below_sets 6 (omega arith, omega arith, λ z. omega arith) (λ _. refl) _
-          ▸ three_stops 7 (omega arith, omega arith, λ z. omega arith) (λ _. refl) (relation union)
-          ▸ two_stops below_sets below_sets 8 (omega arith, omega arith, λ z. omega arith) (λ _. refl) _
-          ▸ two_stops below_sets below_sets 9 (omega arith, omega arith, λ z. omega arith) (λ _. refl) _
-          ▸ three_stops 10 (omega arith, omega arith, λ z. omega arith) (λ _. refl) (relation intersection)
+          ▸ two_stops below_terms below_sets 1 (omega arith, omega arith) (λ _. refl) _
+          ▸ two_stops below_terms below_sets 2 (omega arith, omega arith) (λ _. refl) _
+          ▸ two_stops below_terms below_terms 3 (omega arith, omega arith) (λ _. refl) _
+          ▸ two_stops below_terms below_terms 4 (omega arith, omega arith) (λ _. refl) _
+          ▸ two_stops below_sets below_sets 5 (omega arith, omega arith) (λ _. refl) _
+          ▸ two_stops below_sets below_sets 6 (omega arith, omega arith) (λ _. refl) _
+          ▸ three_stops 7 (omega arith, omega arith) (λ _. refl) (relation union)
+          ▸ two_stops below_sets below_sets 8 (omega arith, omega arith) (λ _. refl) _
+          ▸ two_stops below_sets below_sets 9 (omega arith, omega arith) (λ _. refl) _
+          ▸ three_stops 10 (omega arith, omega arith) (λ _. refl) (relation intersection)
           ▸ list_stops
           ▸ interval_stops
-          ▸ three_stops 13 (omega arith, omega arith, λ z. omega arith) (λ _. refl) (relation difference)
-          ▸ three_stops 14 (omega arith, omega arith, λ z. omega arith) (λ _. refl) (λ A B C. negation nonunion A B C (term w))
-          ▸ two_stops below_sets below_sets 15 (omega arith, omega arith, λ z. omega arith) (λ _. refl) _
-          ▸ two_stops below_sets below_sets 16 (omega arith, omega arith, λ z. omega arith) (λ _. refl) _
-          ▸ three_stops 17 (omega arith, omega arith, λ z. omega arith) (λ _. refl) (λ A B C. negation nonintersection A B C (term w))
           ▸ end
 
       kind_stops : (k : ℕ) → Stops (At cs N S k) (get_or (kinds cs N S w) k (refuse 7))

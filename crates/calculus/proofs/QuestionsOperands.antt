@@ -69,7 +69,7 @@ module _ (cs : List ℤ) (N S : ℕ) where
   At k rest n = OfConstraint cs N S (k ∷ rest) n
 
   pub data Case (k : ℕ) (rest : List ℕ) : ℕ → Type 0 where
-    case_7 : ¬ ((1 ≤ k) × (k ≤ 17)) → Case k rest 7
+    case_7 : ¬ ((1 ≤ k) × (k ≤ 12)) → Case k rest 7
     case_2 : length rest < length (operands k rest) → Case k rest 2
     case_8 : (xs more : List ℕ) → rest ≡ xs ++ more → length xs ≡ length (operands k xs) → ¬ AllName k xs → Case k rest 8
     case_9 : (A i j : ℕ) (more : List ℕ) → k ≡ 12 → rest ≡ A ∷ i ∷ j ∷ more → A < S → i < N → j < N → ¬ Filled i j → Case k rest 9
@@ -81,7 +81,7 @@ module _ (cs : List ℤ) (N S : ℕ) where
   case k rest n (not_filled A i j more a b c h) = case_9 A i j more refl refl a b c h
 
   -- a kind with a fixed number of operands, by the test of question 8 and what is asked after it
-  module _ (k : ℕ) (kind : (1 ≤ k) × (k ≤ 17)) (ss : List Sort) (shape : (bs : List ℕ) → operands k bs ≡ ss) (test : List ℕ → Bool) (Rest : List ℕ → Saying) where
+  module _ (k : ℕ) (kind : (1 ≤ k) × (k ≤ 12)) (ss : List Sort) (shape : (bs : List ℕ) → operands k bs ≡ ss) (test : List ℕ → Bool) (Rest : List ℕ → Saying) where
     abbrev pub Fixed : Saying
     Fixed = Operands (length ss) (λ xs. Asking 8 (λ _. test xs) (Rest xs))
 

@@ -1,14 +1,14 @@
 -- The fields of a record: what they are of a branch's record, and that a record is its fields. Where in a record a field stands is told here, and in specs/Forms.antt.
 use mathlib.Core.Path.{◌≡◌, refl, sym, ◌∙◌, ap}
-use mathlib.Core.List.{List}
+use mathlib.Core.List.{List, [], ◌∷◌}
 use Prim.Native.Nat.{ℕ, zero, suc, ◌+◌, ◌*◌, ◌-◌, ◌/◌, ◌%◌, ◌<◌, ◌≤◌}
 use native.Mathlib.Omega.{arith}
+use native.Mathlib.Nat.{le_of_suc-le-suc}
 use lib.ListN.{length, get_or, drop, get_or-eq_default}
 use lib.Seq.{get_or-drop, ext_get_or}
 use Rattle.calculus.specs.Limits.{term_bytes}
 use Rattle.calculus.specs.Branch.{Branch, root_at}
 use Rattle.calculus.specs.Forms.{record_from, record_of, record_length, root_in, inside_in, outside_in}
-use Rattle.calculus.proofs.Sequences.{any_default}
 
 -- ---- how long it is
 
@@ -55,6 +55,11 @@ module _ (b : Branch) where
   outside_shown n t l = byte n t 2 0 l
 
 -- ---- what it shows is all of it
+
+any_default : (l : List ℕ) (i d e : ℕ) → i < length l → get_or l i d ≡ get_or l i e
+any_default [] i d e q = absurd (omega arith)
+any_default (x ∷ xs) zero d e q = refl
+any_default (x ∷ xs) (suc i) d e q = any_default xs i d e (le_of_suc-le-suc q)
 
 pub root_read : (r : List ℕ) (t : ℕ) → record_length (suc t) ≤ length r → root_in r t ≡ get_or r (term_bytes * t) 0
 unfolding record_length root_in

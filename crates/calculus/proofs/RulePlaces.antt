@@ -10,11 +10,11 @@ use lib.Dec.{eqb}
 use borrow.Author.Tests.{eqb-true, eq-eqb}
 use Rattle.calculus.specs.Lists.{keep, up_from, Each}
 use Rattle.calculus.specs.Terms.{Term, SetVar, term}
-use Rattle.calculus.specs.Relations.{Rule, propagation, Relation, equal, union, disjoint, subset, intersection, difference, unequal, nonunion, overlap, nonsubset, nonintersection, Operand, Literal, propagation_rows, split_rows, negation_row, operand_of}
+use Rattle.calculus.specs.Relations.{Rule, propagation, Relation, equal, union, disjoint, subset, intersection, unequal, Operand, Literal, propagation_rows, split_rows, negation_row, operand_of}
 use Rattle.calculus.specs.Meaning.{Constraint, member, nonmember, same, different, relation, negation, exactly, interval}
 use Rattle.calculus.specs.Branch.{Branch, root_at, root, Fact, In, Out, Same}
 use Rattle.calculus.specs.Search.{Move, at, at_roots, distinct, entering, choose, propagations, splits, roots_of}
-use Rattle.calculus.specs.Order.{OneClass, Place, Root, Fires, rule1, rule2, rule3, rule4, rule5, rule6, rule7, rule8, rule9, rule10, rule11, rule12, rule13, rule14, rule15, rule16, rule17, rule18, rule19, rule20, rule21, rule22, rule23, rule24, rule25, rule26, rule27, rule28, rule29, by_list, by_interval}
+use Rattle.calculus.specs.Order.{OneClass, Place, Root, Fires, rule1, rule2, rule3, rule4, rule5, rule6, rule7, rule8, rule9, rule10, rule11, rule12, rule13, rule14, rule15, rule16, rule17, rule18, rule19, rule20, by_list, by_interval}
 use Rattle.calculus.proofs.ChildrenLeft.{classes}
 use Rattle.calculus.proofs.Enumerating.{Where, candidate, Placed, before_rule, Enum, enum_nil, enum_join, Yes, Ready, Lists, lists_iff, Spot, Run, spots}
 
@@ -37,7 +37,6 @@ rising union = ((omega arith, (omega arith, (omega arith, (omega arith, tt)))), 
 rising disjoint = ((omega arith, (omega arith, tt)), tt)
 rising subset = ((omega arith, tt), tt)
 rising intersection = ((omega arith, (omega arith, (omega arith, tt))), tt)
-rising difference = ((omega arith, (omega arith, (omega arith, (omega arith, tt)))), (omega arith, tt))
 
 module _ (n : ℕ) (b : Branch) where
   -- ---- the places that a constraint offers
@@ -185,15 +184,6 @@ module _ (n : ℕ) (b : Branch) where
   fires_offered l L r s w gs (rule12 h x p q u v) = inr (refl, inl (h, refl, refl, refl, ((x, tt), ((λ k. p k.0), ((λ k. q k.0), ((λ k. u k.0), ((λ k. v k.0), tt)))))))
   fires_offered l L r s w gs (rule20 {es = es} {ds = ds} by_list h x y o) = inr (refl, (h, refl, refl, ap (map (λ (e : Term). Same (term s) e ∷ [])) (sym ((classes (map (root b) es) ds).0 o)), ((x, tt), position_each (term s) es y)))
   fires_offered l L r s w gs (rule20 {es = es} {ds = ds} by_interval h x y o) = inr (refl, (h, refl, refl, ap (map (λ (e : Term). Same (term s) e ∷ [])) (sym ((classes (map (root b) es) ds).0 o)), ((x, tt), position_each (term s) es y)))
-  fires_offered l L r s w gs (rule21 h x y) = inl (refl, inl (h, refl, refl, refl, ((x, tt), ((λ k. y k.0), tt))))
-  fires_offered l L r s w gs (rule22 h x y) = inl (refl, inr (inl (h, refl, refl, refl, ((x, tt), ((λ k. y k.0), tt)))))
-  fires_offered l L r s w gs (rule23 h x z y) = inl (refl, inr (inr (inl (h, refl, refl, refl, ((x, (z, tt)), ((λ k. y k.0), tt))))))
-  fires_offered l L r s w gs (rule24 h x z y) = inl (refl, inr (inr (inr (inl (h, refl, refl, refl, ((x, (z, tt)), ((λ k. y k.0), tt)))))))
-  fires_offered l L r s w gs (rule25 h x p q u v) = inr (refl, inl (h, refl, refl, refl, ((x, tt), ((λ k. p k.0), ((λ k. q k.0), ((λ k. u k.0), ((λ k. v k.0), tt)))))))
-  fires_offered l L r s w gs (rule26 x y z) = inr (refl, (refl, refl, refl, refl, (tt, ((λ k. x (k.0, k.1.0, k.1.1.0)), ((λ k. y (k.0, k.1.0)), ((λ k. z (k.0, k.1.0)), tt))))))
-  fires_offered l L r s w gs (rule27 x) = inr (refl, (refl, refl, refl, refl, (tt, ((λ k. x (k.0, k.1.0)), tt))))
-  fires_offered l L r s w gs (rule28 x) = inr (refl, (refl, refl, refl, refl, (tt, ((λ k. x (k.0, k.1.0)), tt))))
-  fires_offered l L r s w gs (rule29 x y z) = inr (refl, (refl, refl, refl, refl, (tt, ((λ k. x (k.0, k.1.0)), ((λ k. y (k.0, k.1.0)), ((λ k. z (k.0, k.1.0, k.1.1.0)), tt))))))
 
   -- and at what a constraint offers a rule fires
   module _ (l : Constraint) (L : ℕ) where
@@ -225,13 +215,6 @@ module _ (n : ℕ) (b : Branch) where
   propagation_rows_of disjoint A B C = ((λ h d y. rule13 d y.0.0 (λ k. y.1.0 (k, tt))), ((λ h d y. rule14 d y.0.0 (λ k. y.1.0 (k, tt))), tt))
   propagation_rows_of subset A B C = ((λ h d y. rule15 d y.0.0 (λ k. y.1.0 (k, tt))), tt)
   propagation_rows_of intersection A B C = ((λ h d y. rule16 d y.0.0 (λ k. y.1.0 (k, tt))), ((λ h d y. rule17 d y.0.0 (λ k. y.1.0 (k, tt))), ((λ h d y. rule18 d y.0.0 y.0.1.0 (λ k. y.1.0 (k, tt))), tt)))
-  propagation_rows_of difference A B C = (
-    (λ h d y. rule21 d y.0.0 (λ k. y.1.0 (k, tt))),
-    (
-      (λ h d y. rule22 d y.0.0 (λ k. y.1.0 (k, tt))),
-      ((λ h d y. rule23 d y.0.0 y.0.1.0 (λ k. y.1.0 (k, tt))), ((λ h d y. rule24 d y.0.0 y.0.1.0 (λ k. y.1.0 (k, tt))), tt)),
-    ),
-  )
 
   split_rows_of : (k : Relation) (A B C : SetVar) → Each (Row (relation k A B C) 1 (operand_of A B C)) (split_rows k)
   split_rows_of equal A B C = tt
@@ -239,7 +222,6 @@ module _ (n : ℕ) (b : Branch) where
   split_rows_of disjoint A B C = tt
   split_rows_of subset A B C = tt
   split_rows_of intersection A B C = tt
-  split_rows_of difference A B C = ((λ h d y. rule25 d y.0.0 (λ k. y.1.0 (k, tt)) (λ k. y.1.1.0 (k, tt)) (λ k. y.1.1.1.0 (k, tt)) (λ k. y.1.1.1.1.0 (k, tt))), tt)
 
   pub propagated_fires : (l : Constraint) (r s : ℕ) (w : Term) (gs : List (List Fact)) → Propagated l r s w gs → Fires n b l 0 r s w gs
   propagated_fires (member t A) = once_fires (member t A) 0 (root b t) (propagation 1 [] (In t A)) (λ y. rule1 (λ k. y.1.0 (k, tt)))
@@ -258,10 +240,6 @@ module _ (n : ℕ) (b : Branch) where
   split_fires (different t u) = λ _ _ _ _ x. absurd x
   split_fires (relation k A B C) = rows_fire (relation k A B C) 1 (operand_of A B C) (split_rows k) (split_rows_of k A B C)
   split_fires (negation unequal A B C v) = once_fires (negation unequal A B C v) 1 (root b v) (at v (operand_of A B C) (negation_row unequal)) (λ y. rule7 (λ k. y.1.0 (k.0, (k.1, tt))) (λ k. y.1.1.0 (k.0, (k.1, tt))))
-  split_fires (negation nonunion A B C v) = once_fires (negation nonunion A B C v) 1 (root b v) (at v (operand_of A B C) (negation_row nonunion)) (λ y. rule26 (λ k. y.1.0 (k.0, (k.1, (k.2, tt)))) (λ k. y.1.1.0 (k.0, (k.1, tt))) (λ k. y.1.1.1.0 (k.0, (k.1, tt))))
-  split_fires (negation overlap A B C v) = once_fires (negation overlap A B C v) 1 (root b v) (at v (operand_of A B C) (negation_row overlap)) (λ y. rule27 (λ k. y.1.0 (k.0, (k.1, tt))))
-  split_fires (negation nonsubset A B C v) = once_fires (negation nonsubset A B C v) 1 (root b v) (at v (operand_of A B C) (negation_row nonsubset)) (λ y. rule28 (λ k. y.1.0 (k.0, (k.1, tt))))
-  split_fires (negation nonintersection A B C v) = once_fires (negation nonintersection A B C v) 1 (root b v) (at v (operand_of A B C) (negation_row nonintersection)) (λ y. rule29 (λ k. y.1.0 (k.0, (k.1, tt))) (λ k. y.1.1.0 (k.0, (k.1, tt))) (λ k. y.1.1.1.0 (k.0, (k.1, (k.2, tt)))))
   split_fires (exactly A es) = spot_fires (exactly A es) 1 (Root n b) (λ h. (term h, choose (roots_of n b) b A es (term h))) (λ h d y. rule20 by_list d y.0.0 (each_position (term h) es y.1) ((classes (map (root b) es) (distinct (map (root b) es))).1 refl))
   split_fires (interval A i j es) = spot_fires (interval A i j es) 1 (Root n b) (λ h. (term h, choose (roots_of n b) b A es (term h))) (λ h d y. rule20 by_interval d y.0.0 (each_position (term h) es y.1) ((classes (map (root b) es) (distinct (map (root b) es))).1 refl))
 
@@ -285,15 +263,6 @@ module _ (n : ℕ) (b : Branch) where
   fires_one l L r s w v gs hs (rule18 _ _ _ _) (rule18 _ _ _ _) = (refl, refl)
   fires_one l L r s w v gs hs (rule7 _ _) (rule7 _ _) = (refl, refl)
   fires_one l L r s w v gs hs (rule12 _ _ _ _ _ _) (rule12 _ _ _ _ _ _) = (refl, refl)
-  fires_one l L r s w v gs hs (rule21 _ _ _) (rule21 _ _ _) = (refl, refl)
-  fires_one l L r s w v gs hs (rule22 _ _ _) (rule22 _ _ _) = (refl, refl)
-  fires_one l L r s w v gs hs (rule23 _ _ _ _) (rule23 _ _ _ _) = (refl, refl)
-  fires_one l L r s w v gs hs (rule24 _ _ _ _) (rule24 _ _ _ _) = (refl, refl)
-  fires_one l L r s w v gs hs (rule25 _ _ _ _ _ _) (rule25 _ _ _ _ _ _) = (refl, refl)
-  fires_one l L r s w v gs hs (rule26 _ _ _) (rule26 _ _ _) = (refl, refl)
-  fires_one l L r s w v gs hs (rule27 _) (rule27 _) = (refl, refl)
-  fires_one l L r s w v gs hs (rule28 _) (rule28 _) = (refl, refl)
-  fires_one l L r s w v gs hs (rule29 _ _ _) (rule29 _ _ _) = (refl, refl)
   fires_one l L r s w v gs hs (rule19 _ by_list _ _) (rule19 _ by_list _ _) = (refl, refl)
   fires_one l L r s w v gs hs (rule19 _ by_interval _ _) (rule19 _ by_interval _ _) = (refl, refl)
   fires_one l L r s w v gs hs (rule20 {es = es} {ds = ds} by_list _ _ _ o) (rule20 {ds = fs} by_list _ _ _ p) = (refl, ap (map (λ (e : Term). Same (term s) e ∷ [])) (sym ((classes (map (root b) es) ds).0 o) ∙ (classes (map (root b) es) fs).0 p))

@@ -113,7 +113,7 @@ module _ {A : Type 0} (P : A → Type 0) where
   at_each (x ∷ xs) d h = (h 0 (suc-le-suc zero-le), at_each xs d (λ p l. h (suc p) (suc-le-suc l)))
 
 -- below the length the default plays no part
-pub any_default : {A : Type 0} (l : List A) (i : ℕ) (d e : A) → i < length l → get_or l i d ≡ get_or l i e
+pub any_default : (l : List ℕ) (i d e : ℕ) → i < length l → get_or l i d ≡ get_or l i e
 any_default [] i d e q = absurd (omega arith)
 any_default (x ∷ xs) zero d e q = refl
 any_default (x ∷ xs) (suc i) d e q = any_default xs i d e (le_of_suc-le-suc q)

@@ -1,4 +1,4 @@
--- The bytes of a trace record: rules are at most 29, constraints and roots are the problem's, and children are at most two more than the terms.
+-- The bytes of a trace record: rules are at most 20, constraints and roots are the problem's, and children are at most two more than the terms.
 use mathlib.Core.Path.{◌≡◌, refl, sym, ◌∙◌, ap, subst}
 use mathlib.Core.Bool.{Bool, true, false, ◌&&◌, false≢true}
 use mathlib.Core.List.{List, [], ◌∷◌, ◌++◌, map}
@@ -9,7 +9,7 @@ use lib.Dec.{leb}
 use borrow.Author.Tests.{leb-true}
 use Rattle.calculus.specs.Lists.{all, Each, gather}
 use Rattle.calculus.specs.Terms.{Term, SetVar}
-use Rattle.calculus.specs.Relations.{Rule, propagation, Relation, equal, union, disjoint, subset, intersection, difference, Negation, unequal, nonunion, overlap, nonsubset, nonintersection, Operand, Literal, propagation_rows, split_rows, negation_row, rows, operand_of}
+use Rattle.calculus.specs.Relations.{Rule, propagation, Relation, equal, union, disjoint, subset, intersection, Negation, unequal, Operand, Literal, propagation_rows, split_rows, negation_row, rows, operand_of}
 use Rattle.calculus.specs.Meaning.{Constraint, member, nonmember, same, different, relation, negation, exactly, interval}
 use Rattle.calculus.specs.Branch.{Branch, root_at, root, Fact, In, Out, Same, assert_all}
 use Rattle.calculus.specs.Search.{Move, fact_of, at, at_roots, distinct, entering, choose, choosing, propagations, splits, roots_of, Candidate, candidates, places, Next, solved, step, children, next}
@@ -19,17 +19,17 @@ use Rattle.calculus.proofs.Asserting.{WellFormed, below}
 use Rattle.calculus.proofs.Stepping.{IsRoot, roots_each, Found, nothing, place, found}
 use Rattle.calculus.proofs.Sizes.{distinct_few, picked_few}
 
--- a rule's number is at most 29, and it has at most d alternatives
+-- a rule's number is at most 20, and it has at most d alternatives
 abbrev Sized : {F : Type 0} → ℕ → Rule F → Type 0
-Sized d r = (r.rule ≤ 29) × (length r.alternatives ≤ d)
+Sized d r = (r.rule ≤ 20) × (length r.alternatives ≤ d)
 
 abbrev sized_test : Rule Literal → Bool
-sized_test r = leb r.rule 29 && leb (length r.alternatives) 3
+sized_test r = leb r.rule 20 && leb (length r.alternatives) 2
 
-sized_rows : (rs : List (Rule Literal)) → all sized_test rs ≡ true → Each (Sized 3) rs
+sized_rows : (rs : List (Rule Literal)) → all sized_test rs ≡ true → Each (Sized 2) rs
 sized_rows rs e =
-    each_imp (λ r. sized_test r ≡ true) (Sized 3) rs
-    (λ r q. (leb-true r.rule 29 (and_l (leb r.rule 29) (leb (length r.alternatives) 3) q), leb-true (length r.alternatives) 3 (and_r (leb r.rule 29) (leb (length r.alternatives) 3) q))) (each_all sized_test rs e)
+    each_imp (λ r. sized_test r ≡ true) (Sized 2) rs
+    (λ r q. (leb-true r.rule 20 (and_l (leb r.rule 20) (leb (length r.alternatives) 2) q), leb-true (length r.alternatives) 2 (and_r (leb r.rule 20) (leb (length r.alternatives) 2) q))) (each_all sized_test rs e)
 
 propagation_test : (k : Relation) → all sized_test (propagation_rows k) ≡ true
 propagation_test equal = refl
@@ -37,7 +37,6 @@ propagation_test union = refl
 propagation_test disjoint = refl
 propagation_test subset = refl
 propagation_test intersection = refl
-propagation_test difference = refl
 
 split_test : (k : Relation) → all sized_test (split_rows k) ≡ true
 split_test equal = refl
@@ -45,25 +44,20 @@ split_test union = refl
 split_test disjoint = refl
 split_test subset = refl
 split_test intersection = refl
-split_test difference = refl
 
-negation_sized : (k : Negation) → Sized 3 (negation_row k)
+negation_sized : (k : Negation) → Sized 2 (negation_row k)
 negation_sized unequal = (omega arith, omega arith)
-negation_sized nonunion = (omega arith, omega arith)
-negation_sized overlap = (omega arith, omega arith)
-negation_sized nonsubset = (omega arith, omega arith)
-negation_sized nonintersection = (omega arith, omega arith)
 
 module _ (n : ℕ) (k : List Term) (m : ℕ) (b : Branch) (F : WellFormed n k b) where
   abbrev Bounded : Term × Move → Type 0
   Bounded p = (p.0.index < n) × Sized (suc (suc n)) p.1
 
-  at_bounded : (h : Term) (s : Operand → SetVar) (r : Rule Literal) → h.index < n → Sized 3 r → Bounded (h, at h s r)
-  at_bounded h s r l q = (l, (q.0, omega (arith, l, q.1, length-map r.alternatives (map (fact_of h s)))))
+  at_bounded : (h : Term) (s : Operand → SetVar) (r : Rule Literal) → h.index < n → Sized 2 r → Bounded (h, at h s r)
+  at_bounded h s r l q = (l, (q.0, omega (arith, q.1, length-map r.alternatives (map (fact_of h s)))))
 
-  over_bounded : (s : Operand → SetVar) (rs : List (Rule Literal)) → Each (Sized 3) rs → Each Bounded (at_roots (roots_of n b) s rs)
+  over_bounded : (s : Operand → SetVar) (rs : List (Rule Literal)) → Each (Sized 2) rs → Each Bounded (at_roots (roots_of n b) s rs)
   over_bounded s rs e = each_gather Bounded (λ (r : Rule Literal). map (λ (h : Term). (h, at h s r)) (roots_of n b)) rs
-      (each_imp (Sized 3) (λ r. Each Bounded (map (λ (h : Term). (h, at h s r)) (roots_of n b))) rs
+      (each_imp (Sized 2) (λ r. Each Bounded (map (λ (h : Term). (h, at h s r)) (roots_of n b))) rs
       (λ r q. each_map Bounded (λ (h : Term). (h, at h s r)) (roots_of n b) (each_imp (IsRoot n b) (λ h. Bounded (h, at h s r)) (roots_of n b) (λ h i. at_bounded h s r i.0 q) (roots_each n b))) e)
 
   root_low : (t : Term) → t.index < n → (root b t).index < n
@@ -118,14 +112,14 @@ module _ (n : ℕ) (k : List Term) (m : ℕ) (b : Branch) (F : WellFormed n k b)
 
     -- a step's trace record, byte by byte
     pub step_bounds : (r : List ℕ) (cs : List Branch) → next n k ls b ≡ step r cs
-        → (rule constraint concerned : ℕ) × (r ≡ rule ∷ constraint ∷ concerned ∷ length cs ∷ []) × (rule ≤ 29) × (constraint < length ls) × (concerned < n) × (length cs ≤ suc (suc n))
+        → (rule constraint concerned : ℕ) × (r ≡ rule ∷ constraint ∷ concerned ∷ length cs ∷ []) × (rule ≤ 20) × (constraint < length ls) × (concerned < n) × (length cs ≤ suc (suc n))
     step_bounds r cs e = go (next n k ls b) (found n k m ls li b F) e
       where
-        go : (x : Next) → Found n k m ls li b F x → x ≡ step r cs → (rule constraint concerned : ℕ) × (r ≡ rule ∷ constraint ∷ concerned ∷ length cs ∷ []) × (rule ≤ 29) × (constraint < length ls) × (concerned < n) × (length cs ≤ suc (suc n))
+        go : (x : Next) → Found n k m ls li b F x → x ≡ step r cs → (rule constraint concerned : ℕ) × (r ≡ rule ∷ constraint ∷ concerned ∷ length cs ∷ []) × (rule ≤ 20) × (constraint < length ls) × (concerned < n) × (length cs ≤ suc (suc n))
         go x (nothing _) q = let w : false ≡ true = cc in absurd (false≢true w)
         go x (place p a f) q =
             let t = f (Placed (length ls)) all_placed in
             let z : children k b p.move ≡ cs = cc in
             let y : (p.move.rule ∷ p.constraint ∷ p.concerned.index ∷ length (children k b p.move) ∷ []) ≡ r = cc in
-            subst (λ (ds : List Branch). (rule constraint concerned : ℕ) × (r ≡ rule ∷ constraint ∷ concerned ∷ length ds ∷ []) × (rule ≤ 29) × (constraint < length ls) × (concerned < n) × (length ds ≤ suc (suc n))) z
+            subst (λ (ds : List Branch). (rule constraint concerned : ℕ) × (r ≡ rule ∷ constraint ∷ concerned ∷ length ds ∷ []) × (rule ≤ 20) × (constraint < length ls) × (concerned < n) × (length ds ≤ suc (suc n))) z
             (p.move.rule, p.constraint, p.concerned.index, sym y, t.1.1.0, t.0, t.1.0, omega (arith, t.1.1.1, picked_few (assert_all k b) p.move.alternatives))

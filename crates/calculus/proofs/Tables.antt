@@ -4,18 +4,12 @@ use mathlib.Core.Bool.{Bool, true, false, ◌&&◌, ◌||◌, not, cond}
 use mathlib.Core.List.{List, [], ◌∷◌, map}
 use Prim.Native.Nat.{ℕ, zero, suc, ◌+◌}
 use Rattle.calculus.specs.Lists.{imp, all, any, Each}
-use Rattle.calculus.specs.Relations.{Rule, applies, sound, adds, map_rule, Relation, equal, union, disjoint, subset, intersection, difference, holds_at, Operand, A, B, C, Literal, In, Out, negation_row, Negation, unequal, nonunion, overlap, nonsubset, nonintersection, denies, operand_of, lit_known, rows}
+use Rattle.calculus.specs.Relations.{Rule, applies, sound, adds, map_rule, Relation, equal, union, disjoint, subset, intersection, holds_at, Operand, A, B, C, Literal, In, Out, negation_row, Negation, unequal, denies, operand_of, lit_known, rows}
 use Rattle.calculus.proofs.Bools.{and_l, and_r, and_i, imp_at, every, every3, every3_at, not_t, not_f}
 
 module _ {X : Type 0} where
   by_all : (e : Operand → X) → operand_of (e A) (e B) (e C) ≡ e
   by_all e = fun_ext (λ p. elim p [ A ↦ refl | B ↦ refl | C ↦ refl ])
-
-  -- what holds of three values holds of each operand's
-  pub operand_each : (P : X → Type 0) {x y z : X} → P x × P y × P z → (p : Operand) → P (operand_of x y z p)
-  operand_each P h A = h.0
-  operand_each P h B = h.1
-  operand_each P h C = h.2
 
 -- a literal's truth of an element
 abbrev pub lit_true : (Operand → Bool) → Literal → Bool
@@ -29,14 +23,9 @@ sound_test union = refl
 sound_test disjoint = refl
 sound_test subset = refl
 sound_test intersection = refl
-sound_test difference = refl
 
 negation_test : (k : Negation) → every3 (λ a b c. imp (not (holds_at (denies k) a b c)) (sound (lit_true (operand_of a b c)) (negation_row k))) ≡ true
 negation_test unequal = refl
-negation_test nonunion = refl
-negation_test overlap = refl
-negation_test nonsubset = refl
-negation_test nonintersection = refl
 
 -- 2. where no rule of the kind applies, the relation holds of what is known to be in
 abbrev apart? : Bool → Bool → Bool → Bool → Bool → Bool → Bool
@@ -48,14 +37,9 @@ full_test union = refl
 full_test disjoint = refl
 full_test subset = refl
 full_test intersection = refl
-full_test difference = refl
 
 negation_full_test : (k : Negation) → every3 (λ a b c. every3 (λ x y z. imp (apart? a b c x y z && not (applies (lit_known (operand_of a b c) (operand_of x y z)) (negation_row k))) (not (holds_at (denies k) a b c)))) ≡ true
 negation_full_test unequal = refl
-negation_full_test nonunion = refl
-negation_full_test overlap = refl
-negation_full_test nonsubset = refl
-negation_full_test nonintersection = refl
 
 -- 3. a rule that applies adds something in each child
 abbrev adds_test : List (Rule Literal) → Bool
@@ -67,14 +51,9 @@ rows_add_test union = refl
 rows_add_test disjoint = refl
 rows_add_test subset = refl
 rows_add_test intersection = refl
-rows_add_test difference = refl
 
 negation_adds_test : (k : Negation) → adds_test (negation_row k ∷ []) ≡ true
 negation_adds_test unequal = refl
-negation_adds_test nonunion = refl
-negation_adds_test overlap = refl
-negation_adds_test nonsubset = refl
-negation_adds_test nonintersection = refl
 
 -- nothing is in no set
 pub relation_none : (k : Relation) → holds_at k false false false ≡ true
@@ -83,7 +62,6 @@ relation_none union = refl
 relation_none disjoint = refl
 relation_none subset = refl
 relation_none intersection = refl
-relation_none difference = refl
 
 module _ (k : Relation) (e : Operand → Bool) where
   pub rows_sound : holds_at k (e A) (e B) (e C) ≡ true → all (sound (lit_true e)) (rows k) ≡ true

@@ -3,7 +3,7 @@ use Rattle.std.specs.Prelude.{◌≡◌, refl, List, [], ◌∷◌, ◌++◌, ma
 use Rattle.calculus.specs.Limits.{most_bytes}
 use Rattle.calculus.specs.Lists.{Each, gather}
 use Rattle.calculus.specs.Terms.{Term, SetVar}
-use Rattle.calculus.specs.Relations.{equal, union, disjoint, subset, intersection, difference, unequal, nonunion, overlap, nonsubset, nonintersection}
+use Rattle.calculus.specs.Relations.{equal, union, disjoint, subset, intersection, unequal}
 use Rattle.calculus.specs.Meaning.{Constraint, member, nonmember, same, different, relation, negation, exactly, interval}
 use Rattle.calculus.specs.Problem.{Problem, set_count, Rising, Valid}
 
@@ -29,11 +29,6 @@ encode_constraint (relation subset A B C) = 9 ∷ A.index ∷ B.index ∷ []
 encode_constraint (relation intersection A B C) = 10 ∷ A.index ∷ B.index ∷ C.index ∷ []
 encode_constraint (exactly A es) = 11 ∷ A.index ∷ length es ∷ map (λ (e : Term). e.index) es
 encode_constraint (interval A i j es) = 12 ∷ A.index ∷ i.index ∷ j.index ∷ []
-encode_constraint (relation difference A B C) = 13 ∷ A.index ∷ B.index ∷ C.index ∷ []
-encode_constraint (negation nonunion A B C w) = 14 ∷ A.index ∷ B.index ∷ C.index ∷ []
-encode_constraint (negation overlap A B C w) = 15 ∷ A.index ∷ B.index ∷ []
-encode_constraint (negation nonsubset A B C w) = 16 ∷ A.index ∷ B.index ∷ []
-encode_constraint (negation nonintersection A B C w) = 17 ∷ A.index ∷ B.index ∷ C.index ∷ []
 
 -- four sections in fixed order, each after a one-byte count
 abbrev pub encode : Problem → List ℕ

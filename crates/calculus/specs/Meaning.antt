@@ -1,9 +1,9 @@
 -- Constraints (document 01: lines), and what they mean of whole numbers for the terms and finite sets for the set variables.
 use Rattle.std.specs.Prelude.{◌≡◌, refl, ◌↔◌, ◌⊎◌, List, [], ◌∷◌, ◌++◌, map, ℤ, pos, negsuc, ◌≤ℤ◌}
 use Rattle.calculus.specs.Terms.{Term, SetVar}
-use Rattle.calculus.specs.Relations.{Relation, equal, union, disjoint, subset, intersection, difference, Negation, denies}
+use Rattle.calculus.specs.Relations.{Relation, equal, union, disjoint, subset, intersection, Negation, denies}
 
--- Kinds 1, 2: member, nonmember; 3, 4: same, different; 5, 7 to 10, 13: relation; 6, 14 to 17: negation, with its witness w; 11: exactly; 12: interval, with its entries. A relation of two sets, and a negation of one, repeats A for C.
+-- Kinds 1, 2: member, nonmember; 3, 4: same, different; 5, 7 to 10: relation; 6: negation, with its witness w; 11: exactly; 12: interval, with its entries. A relation of two sets, and a negation of one, repeats A for C.
 pub data Constraint : Type 0 where
   member nonmember : (t : Term) (A : SetVar) → Constraint
   same different : (t u : Term) → Constraint
@@ -30,9 +30,8 @@ AtPoint union P Q R = R ↔ (P ⊎ Q)
 AtPoint disjoint P Q R = ¬ (P × Q)
 AtPoint subset P Q R = P → Q
 AtPoint intersection P Q R = R ↔ (P × Q)
-AtPoint difference P Q R = R ↔ (P × ¬ Q)
 
--- A = B; C is the union of A and B; A and B share nothing; A is a subset of B; C is the intersection of A and B; C is A without B
+-- A = B; C is the union of A and B; A and B share nothing; A is a subset of B; C is the intersection of A and B
 abbrev pub Relates : Relation → List ℤ → List ℤ → List ℤ → Type 0
 Relates k A B C = (x : ℤ) → AtPoint k (x ∈ A) (x ∈ B) (x ∈ C)
 

@@ -3,7 +3,7 @@ use Rattle.std.specs.Prelude.{◌≡◌, ◌⊎◌, ◌↔◌, ◌≢◌, true, 
 use Rattle.std.proofs.Math.Option.{Option, none, some}
 use Rattle.calculus.specs.Lists.{Some, bit}
 use Rattle.calculus.specs.Terms.{Term, SetVar, term, set_var}
-use Rattle.calculus.specs.Relations.{equal, union, disjoint, subset, intersection, difference, unequal, nonunion, overlap, nonsubset, nonintersection}
+use Rattle.calculus.specs.Relations.{equal, union, disjoint, subset, intersection, unequal}
 use Rattle.calculus.specs.Meaning.{Constraint, member, nonmember, same, different, relation, negation, exactly, interval, Valuation, Holds}
 use Rattle.calculus.specs.Branch.{Branch, start, root_at, root, Fact, In, Out, Same, known, assert}
 use Rattle.calculus.specs.Problem.{Problem, term_count, constant_terms}
@@ -114,18 +114,9 @@ module _ (n : ℕ) (b : Branch) where
     rule17 : {A B C : SetVar} {h : ℕ} → Root h → KnownIn b (term h) C → ¬ KnownIn b (term h) B → Fires (relation intersection A B C) 0 17 h (term h) ((In (term h) B ∷ []) ∷ [])
     rule18 : {A B C : SetVar} {h : ℕ} → Root h → KnownIn b (term h) A → KnownIn b (term h) B → ¬ KnownIn b (term h) C → Fires (relation intersection A B C) 0 18 h (term h) ((In (term h) C ∷ []) ∷ [])
     rule19 : {l : Constraint} {A : SetVar} {es : List Term} (p : ℕ) → Lists l A es → p < length es → ¬ KnownIn b (get_or es p (term 0)) A → Fires l 0 19 p (root b (get_or es p (term 0))) ((In (get_or es p (term 0)) A ∷ []) ∷ [])
-    rule21 : {A B C : SetVar} {h : ℕ} → Root h → KnownIn b (term h) C → ¬ KnownIn b (term h) A → Fires (relation difference A B C) 0 21 h (term h) ((In (term h) A ∷ []) ∷ [])
-    rule22 : {A B C : SetVar} {h : ℕ} → Root h → KnownIn b (term h) C → ¬ KnownOut b (term h) B → Fires (relation difference A B C) 0 22 h (term h) ((Out (term h) B ∷ []) ∷ [])
-    rule23 : {A B C : SetVar} {h : ℕ} → Root h → KnownIn b (term h) A → KnownOut b (term h) B → ¬ KnownIn b (term h) C → Fires (relation difference A B C) 0 23 h (term h) ((In (term h) C ∷ []) ∷ [])
-    rule24 : {A B C : SetVar} {h : ℕ} → Root h → KnownIn b (term h) A → KnownOut b (term h) C → ¬ KnownIn b (term h) B → Fires (relation difference A B C) 0 24 h (term h) ((In (term h) B ∷ []) ∷ [])
     rule7 : {A B C : SetVar} {w : Term} → ¬ (KnownIn b w A × KnownOut b w B) → ¬ (KnownOut b w A × KnownIn b w B) → Fires (negation unequal A B C w) 1 7 0 (root b w) ((In w A ∷ Out w B ∷ []) ∷ (Out w A ∷ In w B ∷ []) ∷ [])
     rule12 : {A B C : SetVar} {h : ℕ} → Root h → KnownIn b (term h) C → ¬ KnownIn b (term h) A → ¬ KnownOut b (term h) A → ¬ KnownIn b (term h) B → ¬ KnownOut b (term h) B → Fires (relation union A B C) 1 12 h (term h) ((In (term h) A ∷ []) ∷ (Out (term h) A ∷ In (term h) B ∷ []) ∷ [])
     rule20 : {l : Constraint} {A : SetVar} {h : ℕ} {es ds : List Term} → Lists l A es → Root h → KnownIn b (term h) A → ((p : ℕ) → p < length es → ¬ OneClass b (term h) (get_or es p (term 0))) → Once [] (map (root b) es) ds → Fires l 1 20 h (term h) (map (λ e. Same (term h) e ∷ []) ds)
-    rule25 : {A B C : SetVar} {h : ℕ} → Root h → KnownIn b (term h) A → ¬ KnownIn b (term h) B → ¬ KnownOut b (term h) B → ¬ KnownIn b (term h) C → ¬ KnownOut b (term h) C → Fires (relation difference A B C) 1 25 h (term h) ((In (term h) B ∷ []) ∷ (Out (term h) B ∷ In (term h) C ∷ []) ∷ [])
-    rule26 : {A B C : SetVar} {w : Term} → ¬ (KnownIn b w C × KnownOut b w A × KnownOut b w B) → ¬ (KnownIn b w A × KnownOut b w C) → ¬ (KnownIn b w B × KnownOut b w C) → Fires (negation nonunion A B C w) 1 26 0 (root b w) ((In w C ∷ Out w A ∷ Out w B ∷ []) ∷ (In w A ∷ Out w C ∷ []) ∷ (In w B ∷ Out w C ∷ []) ∷ [])
-    rule27 : {A B C : SetVar} {w : Term} → ¬ (KnownIn b w A × KnownIn b w B) → Fires (negation overlap A B C w) 1 27 0 (root b w) ((In w A ∷ In w B ∷ []) ∷ [])
-    rule28 : {A B C : SetVar} {w : Term} → ¬ (KnownIn b w A × KnownOut b w B) → Fires (negation nonsubset A B C w) 1 28 0 (root b w) ((In w A ∷ Out w B ∷ []) ∷ [])
-    rule29 : {A B C : SetVar} {w : Term} → ¬ (KnownIn b w C × KnownOut b w A) → ¬ (KnownIn b w C × KnownOut b w B) → ¬ (KnownIn b w A × KnownIn b w B × KnownOut b w C) → Fires (negation nonintersection A B C w) 1 29 0 (root b w) ((In w C ∷ Out w A ∷ []) ∷ (In w C ∷ Out w B ∷ []) ∷ (In w A ∷ In w B ∷ Out w C ∷ []) ∷ [])
 
 -- ---- the children of a step
 

@@ -3,7 +3,7 @@ use Rattle.std.specs.Prelude.{◌≡◌, refl, Bool, true, false, cond, List, []
 use Rattle.calculus.specs.Limits.{most_sets, most_constraints, most_terms}
 use Rattle.calculus.specs.Lists.{Each}
 use Rattle.calculus.specs.Terms.{Term, SetVar, terms_from}
-use Rattle.calculus.specs.Relations.{Relation, equal, union, disjoint, subset, intersection, difference, denies}
+use Rattle.calculus.specs.Relations.{Relation, equal, union, disjoint, subset, intersection}
 use Rattle.calculus.specs.Meaning.{Constraint, member, nonmember, same, different, relation, negation, exactly, interval, ◌∈◌, Valuation, Holds}
 
 -- the constants' values, the variables' and the set variables' letters, how many witnesses there are, and the constraints
@@ -62,14 +62,13 @@ pub record Letters (lo hi : ℕ) (cs : List ℕ) : Type 0 where
   pub rising : (p q : ℕ) → p < q → q < length cs → get_or cs p 0 < get_or cs q 0
   pub range : (p : ℕ) → p < length cs → (lo ≤ get_or cs p 0) × (get_or cs p 0 ≤ hi)
 
--- a relation of two sets repeats its first operand
+-- a relation of two sets repeats its first operand, and so does a negation (Refers)
 abbrev pub Repeats : Relation → SetVar → SetVar → Type 0
 Repeats equal A C = C ≡ A
 Repeats union A C = Unit {0}
 Repeats disjoint A C = C ≡ A
 Repeats subset A C = C ≡ A
 Repeats intersection A C = Unit {0}
-Repeats difference A C = Unit {0}
 
 -- the entries of an interval: constants i to j
 abbrev pub entries : Term → Term → List Term
@@ -82,7 +81,7 @@ Refers cs N S (nonmember t A) = (t.index < N) × (A.index < S)
 Refers cs N S (same t u) = (t.index < N) × (u.index < N)
 Refers cs N S (different t u) = (t.index < N) × (u.index < N)
 Refers cs N S (relation k A B C) = (A.index < S) × (B.index < S) × (C.index < S) × Repeats k A C
-Refers cs N S (negation k A B C w) = (A.index < S) × (B.index < S) × (C.index < S) × Repeats (denies k) A C
+Refers cs N S (negation k A B C w) = (A.index < S) × (B.index < S) × (C ≡ A)
 Refers cs N S (exactly A es) = (A.index < S) × Each (λ e. e.index < N) es
 Refers cs N S (interval A i j es) = (A.index < S) × (i.index < length cs) × (j.index < length cs) × ((x : ℤ) → get_or cs i.index (pos 0) ≤ℤ x → x ≤ℤ get_or cs j.index (pos 0) → x ∈ cs) × (es ≡ entries i j)
 

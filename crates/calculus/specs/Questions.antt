@@ -50,7 +50,7 @@ pub data OfSets (Next : List ℕ → List ℕ → ℕ → Type 0) : List ℕ →
 pub data Sort : Type 0 where
   a_term aSet aCount : Sort
 
--- the operands of kinds 0 (which is none) to 17; n is the count of kind 11
+-- the operands of kinds 0 (which is none) to 12; n is the count of kind 11
 abbrev pub operand_table : ℕ → List (List Sort)
 operand_table n =
     []
@@ -60,10 +60,7 @@ operand_table n =
     ∷ (aSet ∷ aSet ∷ aSet ∷ [])
     ∷ (aSet ∷ aSet ∷ []) ∷ (aSet ∷ aSet ∷ [])
     ∷ (aSet ∷ aSet ∷ aSet ∷ [])
-    ∷ (aSet ∷ aCount ∷ replicate n a_term) ∷ (aSet ∷ a_term ∷ a_term ∷ [])
-    ∷ (aSet ∷ aSet ∷ aSet ∷ []) ∷ (aSet ∷ aSet ∷ aSet ∷ [])
-    ∷ (aSet ∷ aSet ∷ []) ∷ (aSet ∷ aSet ∷ [])
-    ∷ (aSet ∷ aSet ∷ aSet ∷ []) ∷ []
+    ∷ (aSet ∷ aCount ∷ replicate n a_term) ∷ (aSet ∷ a_term ∷ a_term ∷ []) ∷ []
 
 -- the operands of kind k where bs follows it: the count of kind 11 is its second operand; a byte that is no kind has none
 abbrev pub operands : ℕ → List ℕ → List Sort
@@ -80,8 +77,8 @@ module _ (cs : List ℤ) (N S : ℕ) where
   pub data OfConstraint : List ℕ → ℕ → Type 0 where
     -- Is the kind byte there? 2
     kind_missing : OfConstraint [] 2
-    -- Is it 1 to 17? 7
-    no_kind : (k : ℕ) (rest : List ℕ) → ¬ ((1 ≤ k) × (k ≤ 17)) → OfConstraint (k ∷ rest) 7
+    -- Is it 1 to 12? 7
+    no_kind : (k : ℕ) (rest : List ℕ) → ¬ ((1 ≤ k) × (k ≤ 12)) → OfConstraint (k ∷ rest) 7
     -- Are the operands there? 2
     operands_missing : (k : ℕ) (rest : List ℕ) → length rest < length (operands k rest) → OfConstraint (k ∷ rest) 2
     -- Does each name a constant, variable or set of the problem, as the kind wants? 8
@@ -91,7 +88,7 @@ module _ (cs : List ℤ) (N S : ℕ) where
 
 -- ---- all constraints
 
--- one witness for each constraint of kind 6 or 14 to 17
+-- one witness for each constraint of kind 6
 abbrev pub witness_count : List Constraint → ℕ
 witness_count [] = 0
 witness_count (l ∷ ls) = uses l + witness_count ls

@@ -5,7 +5,7 @@ use Rattle.std.specs.Int.Signed.{lt_z, le_z}
 use Rattle.calculus.specs.Limits.{most_bytes, most_sets, most_constraints, most_terms}
 use Rattle.calculus.specs.Lists.{all, up_from}
 use Rattle.calculus.specs.Terms.{Term, SetVar, term, set_var}
-use Rattle.calculus.specs.Relations.{equal, union, disjoint, subset, intersection, difference, unequal, nonunion, overlap, nonsubset, nonintersection}
+use Rattle.calculus.specs.Relations.{equal, union, disjoint, subset, intersection, unequal}
 use Rattle.calculus.specs.Meaning.{Constraint, member, nonmember, same, different, relation, negation, exactly, interval}
 use Rattle.calculus.specs.Problem.{Problem, entries, uses}
 
@@ -119,7 +119,7 @@ module _ (cs : List ℤ) (N S : ℕ) where
     _ ← ask 9 (ltb i (length cs) && ltb j (length cs) && gapless cs i j)
     parsed (interval (set_var A) (term i) (term j) (entries (term i) (term j)), r₃)
 
-  -- kinds 0 to 17, of which 0 is none; w is the next witness
+  -- kinds 0 to 12, of which 0 is none; w is the next witness
   abbrev pub kinds : ℕ → List Parser
   kinds w =
       refuse 7
@@ -129,10 +129,7 @@ module _ (cs : List ℤ) (N S : ℕ) where
       ∷ three (relation union)
       ∷ of_sets (λ A B. relation disjoint A B A) ∷ of_sets (λ A B. relation subset A B A)
       ∷ three (relation intersection)
-      ∷ of_list ∷ of_interval
-      ∷ three (relation difference) ∷ three (λ A B C. negation nonunion A B C (term w))
-      ∷ of_sets (λ A B. negation overlap A B A (term w)) ∷ of_sets (λ A B. negation nonsubset A B A (term w))
-      ∷ three (λ A B C. negation nonintersection A B C (term w)) ∷ []
+      ∷ of_list ∷ of_interval ∷ []
 
   abbrev pub constraint : ℕ → Parser
   constraint w bs = do

@@ -1,4 +1,4 @@
--- Rules as data, and the tables of the rules of kinds 5 to 10 and 13 to 17.
+-- Rules as data, and the tables of the rules of kinds 5 to 10.
 use Rattle.std.specs.Prelude.{Bool, true, false, ◌&&◌, ◌||◌, not, cond, List, [], ◌∷◌, ◌++◌, map, ℕ, zero, suc, ◌+◌}
 use Rattle.calculus.specs.Lists.{imp, all, any}
 
@@ -33,9 +33,9 @@ module _ {F G : Type 0} where
   abbrev pub map_rule : (F → G) → Rule F → Rule G
   map_rule f s = record { rule = s.rule; premises = map f s.premises; blockers = map (map f) s.blockers; alternatives = map (map f) s.alternatives }
 
--- The relations between sets: kinds 5, 7 to 10 and 13
+-- The relations between sets: kinds 5, 7, 8, 9 and 10
 pub data Relation : Type 0 where
-  equal union disjoint subset intersection difference : Relation
+  equal union disjoint subset intersection : Relation
 
 -- a relation at one whole number: whether it is in A, in B, in C
 abbrev pub holds_at : Relation → Bool → Bool → Bool → Bool
@@ -44,7 +44,6 @@ holds_at union a b c = imp c (a || b) && imp (a || b) c
 holds_at disjoint a b c = not (a && b)
 holds_at subset a b c = imp a b
 holds_at intersection a b c = imp c (a && b) && imp (a && b) c
-holds_at difference a b c = imp c (a && not b) && imp (a && not b) c
 
 -- an operand of a constraint, and a literal: in it, or out of it
 pub data Operand : Type 0 where
@@ -65,7 +64,7 @@ abbrev pub lit_known : (inside outside : Operand → Bool) → Literal → Bool
 lit_known i o (In p) = i p
 lit_known i o (Out p) = o p
 
--- rules 5, 6, 8 to 11, 13 to 18 and 21 to 24
+-- rules 5, 6, 8 to 11 and 13 to 18
 abbrev pub propagation_rows : Relation → List (Rule Literal)
 propagation_rows equal = propagation 5 (In A ∷ []) (In B) ∷ propagation 6 (In B ∷ []) (In A) ∷ []
 propagation_rows union =
@@ -74,38 +73,26 @@ propagation_rows union =
 propagation_rows disjoint = propagation 13 (In A ∷ []) (Out B) ∷ propagation 14 (In B ∷ []) (Out A) ∷ []
 propagation_rows subset = propagation 15 (In A ∷ []) (In B) ∷ []
 propagation_rows intersection = propagation 16 (In C ∷ []) (In A) ∷ propagation 17 (In C ∷ []) (In B) ∷ propagation 18 (In A ∷ In B ∷ []) (In C) ∷ []
-propagation_rows difference =
-    propagation 21 (In C ∷ []) (In A) ∷ propagation 22 (In C ∷ []) (Out B)
-    ∷ propagation 23 (In A ∷ Out B ∷ []) (In C) ∷ propagation 24 (In A ∷ Out C ∷ []) (In B) ∷ []
 
--- rule 12: in C, with A and B both undecided: in A, or out of A and in B; rule 25: in A, with B and C both undecided: in B, or out of B and in C
+-- rule 12: in C, with A and B both undecided: in A, or out of A and in B
 abbrev pub split_rows : Relation → List (Rule Literal)
 split_rows equal = []
 split_rows union = record { rule = 12; premises = In C ∷ []; alternatives = (In A ∷ []) ∷ (Out A ∷ In B ∷ []) ∷ []; blockers = (In A ∷ []) ∷ (Out A ∷ []) ∷ (In B ∷ []) ∷ (Out B ∷ []) ∷ [] } ∷ []
 split_rows disjoint = []
 split_rows subset = []
 split_rows intersection = []
-split_rows difference = record { rule = 25; premises = In A ∷ []; alternatives = (In B ∷ []) ∷ (Out B ∷ In C ∷ []) ∷ []; blockers = (In B ∷ []) ∷ (Out B ∷ []) ∷ (In C ∷ []) ∷ (Out C ∷ []) ∷ [] } ∷ []
 
 -- the propagation rows of a relation, then its split's
 abbrev pub rows : Relation → List (Rule Literal)
 rows k = propagation_rows k ++ split_rows k
 
--- The relations that a constraint can deny: kinds 6 and 14 to 17
+-- The relations that a constraint can deny: kind 6
 pub data Negation : Type 0 where
-  unequal nonunion overlap nonsubset nonintersection : Negation
+  unequal : Negation
 
 abbrev pub denies : Negation → Relation
 denies unequal = equal
-denies nonunion = union
-denies overlap = disjoint
-denies nonsubset = subset
-denies nonintersection = intersection
 
--- Rules 7 and 26 to 29, at the constraint's witness. 7: in A and out of B, or out of A and in B. 26: in C, out of A and B; in A, out of C; or in B, out of C. 27: in A and B. 28: in A, out of B. 29: in C, out of A; in C, out of B; or in A and B, out of C.
+-- rule 7, at the constraint's witness: in A and out of B, or out of A and in B
 abbrev pub negation_row : Negation → Rule Literal
 negation_row unequal = choice 7 ((In A ∷ Out B ∷ []) ∷ (Out A ∷ In B ∷ []) ∷ [])
-negation_row nonunion = choice 26 ((In C ∷ Out A ∷ Out B ∷ []) ∷ (In A ∷ Out C ∷ []) ∷ (In B ∷ Out C ∷ []) ∷ [])
-negation_row overlap = choice 27 ((In A ∷ In B ∷ []) ∷ [])
-negation_row nonsubset = choice 28 ((In A ∷ Out B ∷ []) ∷ [])
-negation_row nonintersection = choice 29 ((In C ∷ Out A ∷ []) ∷ (In C ∷ Out B ∷ []) ∷ (In A ∷ In B ∷ Out C ∷ []) ∷ [])

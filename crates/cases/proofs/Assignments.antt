@@ -109,36 +109,6 @@ table =
     ∷ check (2 ∷ 3 ∷ 0 ∷ 4 ∷ 0 ∷ 0 ∷ 1 ∷ 65 ∷ 1 ∷ 12 ∷ 0 ∷ 1 ∷ 0 ∷ []) (0 ∷ 0 ∷ []) HOLDS
     -- kind 12 fails, j < i and A not empty: A = [4, 3]; A = {3, 4}
     ∷ check (2 ∷ 3 ∷ 0 ∷ 4 ∷ 0 ∷ 0 ∷ 1 ∷ 65 ∷ 1 ∷ 12 ∷ 0 ∷ 1 ∷ 0 ∷ []) (0 ∷ 2 ∷ 3 ∷ 0 ∷ 4 ∷ 0 ∷ []) (FAILS 0)
-    -- kind 13 holds: C is A without B; A = {1, 2}, B = {2, 3}, C = {1}
-    ∷ check (0 ∷ 0 ∷ 3 ∷ 65 ∷ 66 ∷ 67 ∷ 1 ∷ 13 ∷ 0 ∷ 1 ∷ 2 ∷ []) (0 ∷ 2 ∷ 1 ∷ 0 ∷ 2 ∷ 0 ∷ 2 ∷ 2 ∷ 0 ∷ 3 ∷ 0 ∷ 1 ∷ 1 ∷ 0 ∷ []) HOLDS
-    -- kind 13 fails, C lacks one: C is A without B; A = {1, 2}, B = {2, 3}, C = {}
-    ∷ check (0 ∷ 0 ∷ 3 ∷ 65 ∷ 66 ∷ 67 ∷ 1 ∷ 13 ∷ 0 ∷ 1 ∷ 2 ∷ []) (0 ∷ 2 ∷ 1 ∷ 0 ∷ 2 ∷ 0 ∷ 2 ∷ 2 ∷ 0 ∷ 3 ∷ 0 ∷ 0 ∷ []) (FAILS 0)
-    -- kind 13 fails, C has one of A and B: C is A without B; A = {1, 2}, B = {2, 3}, C = {1, 2}
-    ∷ check (0 ∷ 0 ∷ 3 ∷ 65 ∷ 66 ∷ 67 ∷ 1 ∷ 13 ∷ 0 ∷ 1 ∷ 2 ∷ []) (0 ∷ 2 ∷ 1 ∷ 0 ∷ 2 ∷ 0 ∷ 2 ∷ 2 ∷ 0 ∷ 3 ∷ 0 ∷ 2 ∷ 1 ∷ 0 ∷ 2 ∷ 0 ∷ []) (FAILS 0)
-    -- kind 13 fails, the operands' order counts: C is B without A; A = {1, 2}, B = {2, 3}, C = {1}
-    ∷ check (0 ∷ 0 ∷ 3 ∷ 65 ∷ 66 ∷ 67 ∷ 1 ∷ 13 ∷ 1 ∷ 0 ∷ 2 ∷ []) (0 ∷ 2 ∷ 1 ∷ 0 ∷ 2 ∷ 0 ∷ 2 ∷ 2 ∷ 0 ∷ 3 ∷ 0 ∷ 1 ∷ 1 ∷ 0 ∷ []) (FAILS 0)
-    -- kind 14 holds, C lacks one of A: C ≠ A ∪ B; A = {1}, B = {2}, C = {2}
-    ∷ check (0 ∷ 0 ∷ 3 ∷ 65 ∷ 66 ∷ 67 ∷ 1 ∷ 14 ∷ 0 ∷ 1 ∷ 2 ∷ []) (0 ∷ 1 ∷ 1 ∷ 0 ∷ 1 ∷ 2 ∷ 0 ∷ 1 ∷ 2 ∷ 0 ∷ []) HOLDS
-    -- kind 14 holds, C has one too many: C ≠ A ∪ B; A = {1}, B = {2}, C = {1, 2, 3}
-    ∷ check (0 ∷ 0 ∷ 3 ∷ 65 ∷ 66 ∷ 67 ∷ 1 ∷ 14 ∷ 0 ∷ 1 ∷ 2 ∷ []) (0 ∷ 1 ∷ 1 ∷ 0 ∷ 1 ∷ 2 ∷ 0 ∷ 3 ∷ 1 ∷ 0 ∷ 2 ∷ 0 ∷ 3 ∷ 0 ∷ []) HOLDS
-    -- kind 14 fails: C ≠ A ∪ B; A = {1}, B = {2}, C = {1, 2}
-    ∷ check (0 ∷ 0 ∷ 3 ∷ 65 ∷ 66 ∷ 67 ∷ 1 ∷ 14 ∷ 0 ∷ 1 ∷ 2 ∷ []) (0 ∷ 1 ∷ 1 ∷ 0 ∷ 1 ∷ 2 ∷ 0 ∷ 2 ∷ 1 ∷ 0 ∷ 2 ∷ 0 ∷ []) (FAILS 0)
-    -- kind 15 holds: A and B share something; A = {1, 3}, B = {2, 3}
-    ∷ check (0 ∷ 0 ∷ 2 ∷ 65 ∷ 66 ∷ 1 ∷ 15 ∷ 0 ∷ 1 ∷ []) (0 ∷ 2 ∷ 1 ∷ 0 ∷ 3 ∷ 0 ∷ 2 ∷ 2 ∷ 0 ∷ 3 ∷ 0 ∷ []) HOLDS
-    -- kind 15 fails: A and B share something; A = {1, 3}, B = {2, 4}
-    ∷ check (0 ∷ 0 ∷ 2 ∷ 65 ∷ 66 ∷ 1 ∷ 15 ∷ 0 ∷ 1 ∷ []) (0 ∷ 2 ∷ 1 ∷ 0 ∷ 3 ∷ 0 ∷ 2 ∷ 2 ∷ 0 ∷ 4 ∷ 0 ∷ []) (FAILS 0)
-    -- kind 16 holds: A is no subset of B; A = {1, 2}, B = {1}
-    ∷ check (0 ∷ 0 ∷ 2 ∷ 65 ∷ 66 ∷ 1 ∷ 16 ∷ 0 ∷ 1 ∷ []) (0 ∷ 2 ∷ 1 ∷ 0 ∷ 2 ∷ 0 ∷ 1 ∷ 1 ∷ 0 ∷ []) HOLDS
-    -- kind 16 fails: A is no subset of B; A = {1}, B = {1, 2}
-    ∷ check (0 ∷ 0 ∷ 2 ∷ 65 ∷ 66 ∷ 1 ∷ 16 ∷ 0 ∷ 1 ∷ []) (0 ∷ 1 ∷ 1 ∷ 0 ∷ 2 ∷ 1 ∷ 0 ∷ 2 ∷ 0 ∷ []) (FAILS 0)
-    -- kind 16 fails, A and B equal: A is no subset of B; A = {1, 2}, B = {1, 2}
-    ∷ check (0 ∷ 0 ∷ 2 ∷ 65 ∷ 66 ∷ 1 ∷ 16 ∷ 0 ∷ 1 ∷ []) (0 ∷ 2 ∷ 1 ∷ 0 ∷ 2 ∷ 0 ∷ 2 ∷ 1 ∷ 0 ∷ 2 ∷ 0 ∷ []) (FAILS 0)
-    -- kind 17 holds, C lacks one: C ≠ A ∩ B; A = {1, 2}, B = {2, 3}, C = {}
-    ∷ check (0 ∷ 0 ∷ 3 ∷ 65 ∷ 66 ∷ 67 ∷ 1 ∷ 17 ∷ 0 ∷ 1 ∷ 2 ∷ []) (0 ∷ 2 ∷ 1 ∷ 0 ∷ 2 ∷ 0 ∷ 2 ∷ 2 ∷ 0 ∷ 3 ∷ 0 ∷ 0 ∷ []) HOLDS
-    -- kind 17 holds, C has one of A only: C ≠ A ∩ B; A = {1, 2}, B = {2, 3}, C = {1, 2}
-    ∷ check (0 ∷ 0 ∷ 3 ∷ 65 ∷ 66 ∷ 67 ∷ 1 ∷ 17 ∷ 0 ∷ 1 ∷ 2 ∷ []) (0 ∷ 2 ∷ 1 ∷ 0 ∷ 2 ∷ 0 ∷ 2 ∷ 2 ∷ 0 ∷ 3 ∷ 0 ∷ 2 ∷ 1 ∷ 0 ∷ 2 ∷ 0 ∷ []) HOLDS
-    -- kind 17 fails: C ≠ A ∩ B; A = {1, 2}, B = {2, 3}, C = {2}
-    ∷ check (0 ∷ 0 ∷ 3 ∷ 65 ∷ 66 ∷ 67 ∷ 1 ∷ 17 ∷ 0 ∷ 1 ∷ 2 ∷ []) (0 ∷ 2 ∷ 1 ∷ 0 ∷ 2 ∷ 0 ∷ 2 ∷ 2 ∷ 0 ∷ 3 ∷ 0 ∷ 1 ∷ 2 ∷ 0 ∷ []) (FAILS 0)
     -- three constraints hold: x in A, y in A, x = y; x = 5, y = 5, A = {5}
     ∷ check (0 ∷ 2 ∷ 120 ∷ 121 ∷ 1 ∷ 65 ∷ 3 ∷ 1 ∷ 0 ∷ 0 ∷ 1 ∷ 1 ∷ 0 ∷ 3 ∷ 0 ∷ 1 ∷ []) (2 ∷ 5 ∷ 0 ∷ 5 ∷ 0 ∷ 1 ∷ 5 ∷ 0 ∷ []) HOLDS
     -- the lowest of several that fail, 0: x in A, y in A, x = y; x = 5, y = 6, A = {4}

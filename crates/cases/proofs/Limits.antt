@@ -37,10 +37,6 @@ table =
     ∷ run ((16 ∷ []) ++ words_from 0 16 ++ (0 ∷ 7 ∷ 65 ∷ 66 ∷ 67 ∷ 68 ∷ 69 ∷ 70 ∷ 71 ∷ 48 ∷ []) ++ replicate 144 6) 12 192 48 (ended FALSE 1 0) [] (7 ∷ 0 ∷ 16 ∷ 0 ∷ [])
     -- 65 terms: 17 constants and 48 witnesses
     ∷ run ((17 ∷ []) ++ words_from 0 17 ++ (0 ∷ 7 ∷ 65 ∷ 66 ∷ 67 ∷ 68 ∷ 69 ∷ 70 ∷ 71 ∷ 48 ∷ []) ++ replicate 144 6) 5 192 20 (refusal 11) [] []
-    -- 64 terms: 16 constants and a witness for each of 48 constraints of kinds 14 to 17
-    ∷ run ((16 ∷ []) ++ words_from 0 16 ++ (0 ∷ 1 ∷ 65 ∷ 48 ∷ []) ++ repeated 12 (16 ∷ 0 ∷ 0 ∷ 15 ∷ 0 ∷ 0 ∷ 14 ∷ 0 ∷ 0 ∷ 0 ∷ 17 ∷ 0 ∷ 0 ∷ 0 ∷ [])) 12 192 48 (ended FALSE 1 0) [] (28 ∷ 0 ∷ 16 ∷ 0 ∷ [])
-    -- 65 terms: the same and 17 constants
-    ∷ run ((17 ∷ []) ++ words_from 0 17 ++ (0 ∷ 1 ∷ 65 ∷ 48 ∷ []) ++ repeated 12 (16 ∷ 0 ∷ 0 ∷ 15 ∷ 0 ∷ 0 ∷ 14 ∷ 0 ∷ 0 ∷ 0 ∷ 17 ∷ 0 ∷ 0 ∷ 0 ∷ [])) 5 192 20 (refusal 11) [] []
     -- 64 terms: term 63 ≠ term 63
     ∷ run ((63 ∷ []) ++ words_from 0 63 ++ (1 ∷ 120 ∷ 0 ∷ 1 ∷ 4 ∷ 63 ∷ 63 ∷ [])) 12 192 48 (ended FALSE 1 0) [] (4 ∷ 0 ∷ 63 ∷ 0 ∷ [])
     -- 26 variables, form buffer of one record
@@ -145,14 +141,14 @@ table =
     ∷ run (2 ∷ 0 ∷ 131 ∷ 1 ∷ 125 ∷ 0 ∷ 0 ∷ 0 ∷ []) 5 192 20 (refusal 3) [] []
     -- kind 1 is accepted
     ∷ run (0 ∷ 1 ∷ 120 ∷ 1 ∷ 65 ∷ 1 ∷ 1 ∷ 0 ∷ 0 ∷ []) 12 192 48 (ended FORMS 1 1) (0 ∷ 1 ∷ 0 ∷ []) (1 ∷ 0 ∷ 0 ∷ 1 ∷ [])
-    -- kind 17 is accepted
-    ∷ run (1 ∷ 3 ∷ 0 ∷ 0 ∷ 1 ∷ 65 ∷ 1 ∷ 17 ∷ 0 ∷ 0 ∷ 0 ∷ []) 12 192 48 (ended FALSE 1 0) [] (29 ∷ 0 ∷ 1 ∷ 0 ∷ [])
+    -- kind 12 is accepted
+    ∷ run (1 ∷ 3 ∷ 0 ∷ 0 ∷ 1 ∷ 65 ∷ 1 ∷ 12 ∷ 0 ∷ 0 ∷ 0 ∷ []) 12 192 48 (ended FORMS 1 1) (0 ∷ 1 ∷ 0 ∷ []) (19 ∷ 0 ∷ 0 ∷ 1 ∷ [])
     -- kind 0 is not
     ∷ run (1 ∷ 3 ∷ 0 ∷ 0 ∷ 1 ∷ 65 ∷ 1 ∷ 0 ∷ 0 ∷ 0 ∷ 0 ∷ []) 5 192 20 (refusal 7) [] []
-    -- kind 18 is not
-    ∷ run (1 ∷ 3 ∷ 0 ∷ 0 ∷ 1 ∷ 65 ∷ 1 ∷ 18 ∷ 0 ∷ 0 ∷ 0 ∷ []) 5 192 20 (refusal 7) [] []
-    -- kind 19 is not
-    ∷ run (1 ∷ 3 ∷ 0 ∷ 0 ∷ 1 ∷ 65 ∷ 1 ∷ 19 ∷ 0 ∷ 0 ∷ 0 ∷ []) 5 192 20 (refusal 7) [] []
+    -- kind 13 is not
+    ∷ run (1 ∷ 3 ∷ 0 ∷ 0 ∷ 1 ∷ 65 ∷ 1 ∷ 13 ∷ 0 ∷ 0 ∷ 0 ∷ []) 5 192 20 (refusal 7) [] []
+    -- kind 14 is not
+    ∷ run (1 ∷ 3 ∷ 0 ∷ 0 ∷ 1 ∷ 65 ∷ 1 ∷ 14 ∷ 0 ∷ 0 ∷ 0 ∷ []) 5 192 20 (refusal 7) [] []
     -- kind 255 is not
     ∷ run (1 ∷ 3 ∷ 0 ∷ 0 ∷ 1 ∷ 65 ∷ 1 ∷ 255 ∷ 0 ∷ 0 ∷ 0 ∷ []) 5 192 20 (refusal 7) [] []
     -- an empty list

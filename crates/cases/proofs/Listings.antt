@@ -58,10 +58,6 @@ table =
     -- C1 and one byte more
     -- REFUSED 10
     ∷ record { problem = 0x02 ∷ 0x03 ∷ 0x00 ∷ 0x04 ∷ 0x00 ∷ 0x01 ∷ 0x78 ∷ 0x01 ∷ 0x41 ∷ 0x03 ∷ 0x01 ∷ 0x02 ∷ 0x00 ∷ 0x0C ∷ 0x00 ∷ 0x00 ∷ 0x01 ∷ 0x04 ∷ 0x02 ∷ 0x00 ∷ 0x00 ∷ []; lines = (82 ∷ 69 ∷ 70 ∷ 85 ∷ 83 ∷ 69 ∷ 68 ∷ 32 ∷ 49 ∷ 48 ∷ 10 ∷ []) ∷ [] }
-    -- a negation's witness shows as a member: A and B share something
-    -- FORMS 1 STEPS 1
-    -- A={32001} B={32001}
-    ∷ record { problem = 0x00 ∷ 0x00 ∷ 0x02 ∷ 0x41 ∷ 0x42 ∷ 0x01 ∷ 0x0F ∷ 0x00 ∷ 0x01 ∷ []; lines = (70 ∷ 79 ∷ 82 ∷ 77 ∷ 83 ∷ 32 ∷ 49 ∷ 32 ∷ 83 ∷ 84 ∷ 69 ∷ 80 ∷ 83 ∷ 32 ∷ 49 ∷ 10 ∷ []) ∷ (65 ∷ 61 ∷ 123 ∷ 51 ∷ 50 ∷ 48 ∷ 48 ∷ 49 ∷ 125 ∷ 32 ∷ 66 ∷ 61 ∷ 123 ∷ 51 ∷ 50 ∷ 48 ∷ 48 ∷ 49 ∷ 125 ∷ 10 ∷ []) ∷ [] }
     -- 65 constants
     -- REFUSED 11
     ∷ record { problem = (0x41 ∷ []) ++ words_from 0 65 ++ (0x00 ∷ 0x00 ∷ 0x00 ∷ []); lines = (82 ∷ 69 ∷ 70 ∷ 85 ∷ 83 ∷ 69 ∷ 68 ∷ 32 ∷ 49 ∷ 49 ∷ 10 ∷ []) ∷ [] }

@@ -90,12 +90,6 @@ table =
     ∷ run (0 ∷ 0 ∷ 2 ∷ 65 ∷ 66 ∷ 2 ∷ 6 ∷ 0 ∷ 1 ∷ 9 ∷ 0 ∷ 1 ∷ []) 12 192 48 (ended FORMS 2 1) (0 ∷ 2 ∷ 1 ∷ []) (7 ∷ 0 ∷ 0 ∷ 2 ∷ 15 ∷ 1 ∷ 0 ∷ 0 ∷ [])
     -- the second case of a union conflicts, the first does not: C = A ∪ B, x in C, B ⊆ D, x not in D
     ∷ run (0 ∷ 1 ∷ 120 ∷ 4 ∷ 65 ∷ 66 ∷ 67 ∷ 68 ∷ 4 ∷ 7 ∷ 0 ∷ 1 ∷ 2 ∷ 1 ∷ 0 ∷ 2 ∷ 9 ∷ 1 ∷ 3 ∷ 2 ∷ 0 ∷ 3 ∷ []) 12 192 48 (ended FORMS 4 1) (0 ∷ 5 ∷ 8 ∷ []) (1 ∷ 1 ∷ 0 ∷ 1 ∷ 2 ∷ 3 ∷ 0 ∷ 1 ∷ 12 ∷ 0 ∷ 0 ∷ 2 ∷ 15 ∷ 2 ∷ 0 ∷ 0 ∷ [])
-    -- the first case of a difference conflicts, the second does not: C is A without B, x in A, B = {}
-    ∷ run (0 ∷ 1 ∷ 120 ∷ 3 ∷ 65 ∷ 66 ∷ 67 ∷ 3 ∷ 13 ∷ 0 ∷ 1 ∷ 2 ∷ 1 ∷ 0 ∷ 0 ∷ 11 ∷ 1 ∷ 0 ∷ []) 12 192 48 (ended FORMS 3 1) (0 ∷ 5 ∷ 2 ∷ []) (1 ∷ 1 ∷ 0 ∷ 1 ∷ 25 ∷ 0 ∷ 0 ∷ 2 ∷ 20 ∷ 2 ∷ 0 ∷ 0 ∷ [])
-    -- the first and the second case of C ≠ A ∪ B conflict, the third does not: C ≠ A ∪ B, A = C
-    ∷ run (0 ∷ 0 ∷ 3 ∷ 65 ∷ 66 ∷ 67 ∷ 2 ∷ 14 ∷ 0 ∷ 1 ∷ 2 ∷ 5 ∷ 0 ∷ 2 ∷ []) 12 192 48 (ended FORMS 3 1) (0 ∷ 2 ∷ 4 ∷ []) (26 ∷ 0 ∷ 0 ∷ 3 ∷ 6 ∷ 1 ∷ 0 ∷ 0 ∷ 5 ∷ 1 ∷ 0 ∷ 0 ∷ [])
-    -- the first and the second case of C ≠ A ∩ B conflict, the third does not: C ≠ A ∩ B, C = {}
-    ∷ run (0 ∷ 0 ∷ 3 ∷ 65 ∷ 66 ∷ 67 ∷ 2 ∷ 17 ∷ 0 ∷ 1 ∷ 2 ∷ 11 ∷ 2 ∷ 0 ∷ []) 12 192 48 (ended FORMS 3 1) (0 ∷ 3 ∷ 4 ∷ []) (29 ∷ 0 ∷ 0 ∷ 3 ∷ 20 ∷ 1 ∷ 0 ∷ 0 ∷ 20 ∷ 1 ∷ 0 ∷ 0 ∷ [])
     ∷ []
 
 pub rows_hold : map given table ≡ map expected table

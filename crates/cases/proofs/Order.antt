@@ -115,26 +115,6 @@ table =
     ∷ run (0 ∷ 1 ∷ 120 ∷ 3 ∷ 65 ∷ 66 ∷ 67 ∷ 3 ∷ 6 ∷ 0 ∷ 1 ∷ 7 ∷ 0 ∷ 1 ∷ 2 ∷ 1 ∷ 0 ∷ 2 ∷ []) 2 192 8 (ended SPENT 2 0) [] (1 ∷ 2 ∷ 0 ∷ 1 ∷ 7 ∷ 0 ∷ 1 ∷ 2 ∷ [])
     -- splits 7 and 20 compete, the constraint decides: A ≠ B, C = {a, b}, x in C
     ∷ run (0 ∷ 3 ∷ 97 ∷ 98 ∷ 120 ∷ 3 ∷ 65 ∷ 66 ∷ 67 ∷ 3 ∷ 6 ∷ 0 ∷ 1 ∷ 11 ∷ 2 ∷ 2 ∷ 0 ∷ 1 ∷ 1 ∷ 2 ∷ 2 ∷ []) 4 192 16 (ended SPENT 4 0) [] (19 ∷ 1 ∷ 0 ∷ 1 ∷ 19 ∷ 1 ∷ 1 ∷ 1 ∷ 1 ∷ 2 ∷ 2 ∷ 1 ∷ 7 ∷ 0 ∷ 3 ∷ 2 ∷ [])
-    -- rule number before root, 21 for y, then 22 for x and y: x in A, x in C, y in C, C is A without B
-    ∷ run (0 ∷ 2 ∷ 120 ∷ 121 ∷ 3 ∷ 65 ∷ 66 ∷ 67 ∷ 4 ∷ 1 ∷ 0 ∷ 0 ∷ 1 ∷ 0 ∷ 2 ∷ 1 ∷ 1 ∷ 2 ∷ 13 ∷ 0 ∷ 1 ∷ 2 ∷ []) 12 192 48 (ended FORMS 6 1) (0 ∷ 5 ∷ 2 ∷ 1 ∷ 5 ∷ 2 ∷ []) (1 ∷ 0 ∷ 0 ∷ 1 ∷ 1 ∷ 1 ∷ 0 ∷ 1 ∷ 1 ∷ 2 ∷ 1 ∷ 1 ∷ 21 ∷ 3 ∷ 1 ∷ 1 ∷ 22 ∷ 3 ∷ 0 ∷ 1 ∷ 22 ∷ 3 ∷ 1 ∷ 1 ∷ [])
-    -- rule number before root, 22 for y, then 23 for x: y in A, y in C, x in A, x not in B, C is A without B
-    ∷ run (0 ∷ 2 ∷ 120 ∷ 121 ∷ 3 ∷ 65 ∷ 66 ∷ 67 ∷ 5 ∷ 1 ∷ 1 ∷ 0 ∷ 1 ∷ 1 ∷ 2 ∷ 1 ∷ 0 ∷ 0 ∷ 2 ∷ 0 ∷ 1 ∷ 13 ∷ 0 ∷ 1 ∷ 2 ∷ []) 12 192 48 (ended FORMS 6 1) (0 ∷ 5 ∷ 2 ∷ 1 ∷ 5 ∷ 2 ∷ []) (1 ∷ 0 ∷ 1 ∷ 1 ∷ 1 ∷ 1 ∷ 1 ∷ 1 ∷ 1 ∷ 2 ∷ 0 ∷ 1 ∷ 2 ∷ 3 ∷ 0 ∷ 1 ∷ 22 ∷ 4 ∷ 1 ∷ 1 ∷ 23 ∷ 4 ∷ 0 ∷ 1 ∷ [])
-    -- rule number before root, 23 for y, then 24 for x: y in A, y not in B, x in A, x not in C, C is A without B
-    ∷ run (0 ∷ 2 ∷ 120 ∷ 121 ∷ 3 ∷ 65 ∷ 66 ∷ 67 ∷ 5 ∷ 1 ∷ 1 ∷ 0 ∷ 2 ∷ 1 ∷ 1 ∷ 1 ∷ 0 ∷ 0 ∷ 2 ∷ 0 ∷ 2 ∷ 13 ∷ 0 ∷ 1 ∷ 2 ∷ []) 12 192 48 (ended FORMS 6 1) (0 ∷ 3 ∷ 4 ∷ 1 ∷ 5 ∷ 2 ∷ []) (1 ∷ 0 ∷ 1 ∷ 1 ∷ 2 ∷ 1 ∷ 1 ∷ 1 ∷ 1 ∷ 2 ∷ 0 ∷ 1 ∷ 2 ∷ 3 ∷ 0 ∷ 1 ∷ 23 ∷ 4 ∷ 1 ∷ 1 ∷ 24 ∷ 4 ∷ 0 ∷ 1 ∷ [])
-    -- rule 24 for y before the split 25 for x: x in A, y in A, y not in C, C is A without B
-    ∷ run (0 ∷ 2 ∷ 120 ∷ 121 ∷ 3 ∷ 65 ∷ 66 ∷ 67 ∷ 4 ∷ 1 ∷ 0 ∷ 0 ∷ 1 ∷ 1 ∷ 0 ∷ 2 ∷ 1 ∷ 2 ∷ 13 ∷ 0 ∷ 1 ∷ 2 ∷ []) 12 192 48 (ended FORMS 5 2) (0 ∷ 3 ∷ 0 ∷ 1 ∷ 3 ∷ 4 ∷ 0 ∷ 5 ∷ 2 ∷ 1 ∷ 3 ∷ 4 ∷ []) (1 ∷ 0 ∷ 0 ∷ 1 ∷ 1 ∷ 1 ∷ 1 ∷ 1 ∷ 2 ∷ 2 ∷ 1 ∷ 1 ∷ 24 ∷ 3 ∷ 1 ∷ 1 ∷ 25 ∷ 3 ∷ 0 ∷ 2 ∷ [])
-    -- a split with one child is no propagation rule, 27 and 28 come after rule 1: A and B share something, B is no subset of A, x in A
-    ∷ run (0 ∷ 1 ∷ 120 ∷ 2 ∷ 65 ∷ 66 ∷ 3 ∷ 15 ∷ 0 ∷ 1 ∷ 16 ∷ 1 ∷ 0 ∷ 1 ∷ 0 ∷ 0 ∷ []) 12 192 48 (ended FORMS 3 1) (0 ∷ 1 ∷ 0 ∷ 1 ∷ 3 ∷ 0 ∷ 2 ∷ 2 ∷ 1 ∷ []) (1 ∷ 2 ∷ 0 ∷ 1 ∷ 27 ∷ 0 ∷ 1 ∷ 1 ∷ 28 ∷ 1 ∷ 2 ∷ 1 ∷ [])
-    -- propagation between two splits with one child: A is no subset of B, A and B share something, A ⊆ C
-    ∷ run (0 ∷ 0 ∷ 3 ∷ 65 ∷ 66 ∷ 67 ∷ 3 ∷ 16 ∷ 0 ∷ 1 ∷ 15 ∷ 0 ∷ 1 ∷ 9 ∷ 0 ∷ 2 ∷ []) 12 192 48 (ended FORMS 4 1) (0 ∷ 5 ∷ 2 ∷ 1 ∷ 7 ∷ 0 ∷ []) (28 ∷ 0 ∷ 0 ∷ 1 ∷ 15 ∷ 2 ∷ 0 ∷ 1 ∷ 27 ∷ 1 ∷ 1 ∷ 1 ∷ 15 ∷ 2 ∷ 1 ∷ 1 ∷ [])
-    -- witnesses in the order of the constraints, over kinds 6 and 14 to 17: A is no subset of B, A ≠ B, A ≠ A ∪ B, A and B share something, A ≠ A ∩ B
-    ∷ run (0 ∷ 1 ∷ 120 ∷ 2 ∷ 65 ∷ 66 ∷ 5 ∷ 16 ∷ 0 ∷ 1 ∷ 6 ∷ 0 ∷ 1 ∷ 14 ∷ 0 ∷ 1 ∷ 0 ∷ 15 ∷ 0 ∷ 1 ∷ 17 ∷ 0 ∷ 1 ∷ 0 ∷ []) 12 192 48 (ended FORMS 8 2) (0 ∷ 0 ∷ 0 ∷ 1 ∷ 1 ∷ 2 ∷ 2 ∷ 1 ∷ 2 ∷ 3 ∷ 2 ∷ 1 ∷ 4 ∷ 3 ∷ 0 ∷ 5 ∷ 1 ∷ 2 ∷ 0 ∷ 0 ∷ 0 ∷ 1 ∷ 1 ∷ 2 ∷ 2 ∷ 2 ∷ 1 ∷ 3 ∷ 2 ∷ 1 ∷ 4 ∷ 3 ∷ 0 ∷ 5 ∷ 1 ∷ 2 ∷ []) (28 ∷ 0 ∷ 1 ∷ 1 ∷ 7 ∷ 1 ∷ 2 ∷ 2 ∷ 26 ∷ 2 ∷ 3 ∷ 1 ∷ 27 ∷ 3 ∷ 4 ∷ 1 ∷ 29 ∷ 4 ∷ 5 ∷ 1 ∷ 26 ∷ 2 ∷ 3 ∷ 1 ∷ 27 ∷ 3 ∷ 4 ∷ 1 ∷ 29 ∷ 4 ∷ 5 ∷ 1 ∷ [])
-    -- splits by constraint, rule 25 of constraint 0 before rule 12 of constraint 1: C is A without B, A = B ∪ D, x in A
-    ∷ run (0 ∷ 1 ∷ 120 ∷ 4 ∷ 65 ∷ 66 ∷ 67 ∷ 68 ∷ 3 ∷ 13 ∷ 0 ∷ 1 ∷ 2 ∷ 7 ∷ 1 ∷ 3 ∷ 0 ∷ 1 ∷ 0 ∷ 0 ∷ []) 12 192 48 (ended FORMS 3 2) (0 ∷ 3 ∷ 0 ∷ 0 ∷ 13 ∷ 2 ∷ []) (1 ∷ 2 ∷ 0 ∷ 1 ∷ 25 ∷ 0 ∷ 0 ∷ 2 ∷ 10 ∷ 1 ∷ 0 ∷ 1 ∷ [])
-    -- rule 26's children one after the other, the second closes: C ≠ A ∪ B, A ⊆ C
-    ∷ run (0 ∷ 0 ∷ 3 ∷ 65 ∷ 66 ∷ 67 ∷ 2 ∷ 14 ∷ 0 ∷ 1 ∷ 2 ∷ 9 ∷ 0 ∷ 2 ∷ []) 12 192 48 (ended FORMS 2 2) (0 ∷ 4 ∷ 3 ∷ 0 ∷ 2 ∷ 4 ∷ []) (26 ∷ 0 ∷ 0 ∷ 3 ∷ 15 ∷ 1 ∷ 0 ∷ 0 ∷ [])
-    -- a witness is merged, and its split is not made again: A = {x}, A and B share something, A is no subset of C
-    ∷ run (0 ∷ 1 ∷ 120 ∷ 3 ∷ 65 ∷ 66 ∷ 67 ∷ 3 ∷ 11 ∷ 0 ∷ 1 ∷ 0 ∷ 15 ∷ 0 ∷ 1 ∷ 16 ∷ 0 ∷ 2 ∷ []) 12 192 48 (ended FORMS 5 1) (0 ∷ 3 ∷ 4 ∷ 0 ∷ 3 ∷ 4 ∷ 0 ∷ 3 ∷ 4 ∷ []) (19 ∷ 0 ∷ 0 ∷ 1 ∷ 27 ∷ 1 ∷ 1 ∷ 1 ∷ 20 ∷ 0 ∷ 1 ∷ 1 ∷ 28 ∷ 2 ∷ 2 ∷ 1 ∷ 20 ∷ 0 ∷ 2 ∷ 1 ∷ [])
     ∷ []
 
 pub rows_hold : map given table ≡ map expected table

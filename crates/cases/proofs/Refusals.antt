@@ -80,14 +80,14 @@ table =
     ∷ run ((0 ∷ 4 ∷ 97 ∷ 98 ∷ 99 ∷ 100 ∷ 0 ∷ 49 ∷ []) ++ replicate 147 3) 5 192 20 (refusal 6) [] []
     -- question 7: kind 0
     ∷ run (0 ∷ 1 ∷ 120 ∷ 1 ∷ 65 ∷ 1 ∷ 0 ∷ 0 ∷ 0 ∷ []) 5 192 20 (refusal 7) [] []
-    -- question 7: kind 18
-    ∷ run (0 ∷ 1 ∷ 120 ∷ 1 ∷ 65 ∷ 1 ∷ 18 ∷ 0 ∷ 0 ∷ []) 5 192 20 (refusal 7) [] []
-    -- question 7: kind 19
-    ∷ run (0 ∷ 1 ∷ 120 ∷ 1 ∷ 65 ∷ 1 ∷ 19 ∷ 0 ∷ 0 ∷ []) 5 192 20 (refusal 7) [] []
+    -- question 7: kind 13
+    ∷ run (0 ∷ 1 ∷ 120 ∷ 1 ∷ 65 ∷ 1 ∷ 13 ∷ 0 ∷ 0 ∷ []) 5 192 20 (refusal 7) [] []
+    -- question 7: kind 14
+    ∷ run (0 ∷ 1 ∷ 120 ∷ 1 ∷ 65 ∷ 1 ∷ 14 ∷ 0 ∷ 0 ∷ []) 5 192 20 (refusal 7) [] []
     -- question 7: kind 255
     ∷ run (0 ∷ 1 ∷ 120 ∷ 1 ∷ 65 ∷ 1 ∷ 255 ∷ 0 ∷ 0 ∷ []) 5 192 20 (refusal 7) [] []
     -- question 7: in the second constraint
-    ∷ run (0 ∷ 1 ∷ 120 ∷ 1 ∷ 65 ∷ 2 ∷ 1 ∷ 0 ∷ 0 ∷ 18 ∷ 0 ∷ 0 ∷ []) 5 192 20 (refusal 7) [] []
+    ∷ run (0 ∷ 1 ∷ 120 ∷ 1 ∷ 65 ∷ 2 ∷ 1 ∷ 0 ∷ 0 ∷ 13 ∷ 0 ∷ 0 ∷ []) 5 192 20 (refusal 7) [] []
     -- question 2: last operand of kind 1 missing
     ∷ run (1 ∷ 3 ∷ 0 ∷ 0 ∷ 1 ∷ 65 ∷ 1 ∷ 1 ∷ 0 ∷ []) 5 192 20 (refusal 2) [] []
     -- question 2: last operand of kind 2 missing
@@ -112,16 +112,6 @@ table =
     ∷ run (1 ∷ 3 ∷ 0 ∷ 0 ∷ 1 ∷ 65 ∷ 1 ∷ 11 ∷ 0 ∷ 1 ∷ []) 5 192 20 (refusal 2) [] []
     -- question 2: last operand of kind 12 missing
     ∷ run (1 ∷ 3 ∷ 0 ∷ 0 ∷ 1 ∷ 65 ∷ 1 ∷ 12 ∷ 0 ∷ 0 ∷ []) 5 192 20 (refusal 2) [] []
-    -- question 2: last operand of kind 13 missing
-    ∷ run (1 ∷ 3 ∷ 0 ∷ 0 ∷ 1 ∷ 65 ∷ 1 ∷ 13 ∷ 0 ∷ 0 ∷ []) 5 192 20 (refusal 2) [] []
-    -- question 2: last operand of kind 14 missing
-    ∷ run (1 ∷ 3 ∷ 0 ∷ 0 ∷ 1 ∷ 65 ∷ 1 ∷ 14 ∷ 0 ∷ 0 ∷ []) 5 192 20 (refusal 2) [] []
-    -- question 2: last operand of kind 15 missing
-    ∷ run (1 ∷ 3 ∷ 0 ∷ 0 ∷ 1 ∷ 65 ∷ 1 ∷ 15 ∷ 0 ∷ []) 5 192 20 (refusal 2) [] []
-    -- question 2: last operand of kind 16 missing
-    ∷ run (1 ∷ 3 ∷ 0 ∷ 0 ∷ 1 ∷ 65 ∷ 1 ∷ 16 ∷ 0 ∷ []) 5 192 20 (refusal 2) [] []
-    -- question 2: last operand of kind 17 missing
-    ∷ run (1 ∷ 3 ∷ 0 ∷ 0 ∷ 1 ∷ 65 ∷ 1 ∷ 17 ∷ 0 ∷ 0 ∷ []) 5 192 20 (refusal 2) [] []
     -- question 2: all operands missing
     ∷ run (0 ∷ 1 ∷ 120 ∷ 1 ∷ 65 ∷ 1 ∷ 1 ∷ []) 5 192 20 (refusal 2) [] []
     -- question 2: all operands of a list missing
@@ -188,24 +178,12 @@ table =
     ∷ run (1 ∷ 3 ∷ 0 ∷ 0 ∷ 2 ∷ 65 ∷ 66 ∷ 1 ∷ 12 ∷ 0 ∷ 1 ∷ 0 ∷ []) 5 192 20 (refusal 8) [] []
     -- question 8: kind 12, second end 1 where there is only term 0
     ∷ run (1 ∷ 3 ∷ 0 ∷ 0 ∷ 2 ∷ 65 ∷ 66 ∷ 1 ∷ 12 ∷ 0 ∷ 0 ∷ 1 ∷ []) 5 192 20 (refusal 8) [] []
-    -- question 8: kind 13, third set 1 where there is only set 0
-    ∷ run (0 ∷ 2 ∷ 120 ∷ 121 ∷ 1 ∷ 65 ∷ 1 ∷ 13 ∷ 0 ∷ 0 ∷ 1 ∷ []) 5 192 20 (refusal 8) [] []
-    -- question 8: kind 14, third set 1 where there is only set 0
-    ∷ run (0 ∷ 2 ∷ 120 ∷ 121 ∷ 1 ∷ 65 ∷ 1 ∷ 14 ∷ 0 ∷ 0 ∷ 1 ∷ []) 5 192 20 (refusal 8) [] []
-    -- question 8: kind 15, second set 1 where there is only set 0
-    ∷ run (0 ∷ 2 ∷ 120 ∷ 121 ∷ 1 ∷ 65 ∷ 1 ∷ 15 ∷ 0 ∷ 1 ∷ []) 5 192 20 (refusal 8) [] []
-    -- question 8: kind 16, the number of a term, where there is only set 0
-    ∷ run (0 ∷ 2 ∷ 120 ∷ 121 ∷ 1 ∷ 65 ∷ 1 ∷ 16 ∷ 1 ∷ 0 ∷ []) 5 192 20 (refusal 8) [] []
-    -- question 8: kind 17, third set 1 where there is only set 0
-    ∷ run (0 ∷ 2 ∷ 120 ∷ 121 ∷ 1 ∷ 65 ∷ 1 ∷ 17 ∷ 0 ∷ 0 ∷ 1 ∷ []) 5 192 20 (refusal 8) [] []
     -- question 8: a constraint may not name a witness
     ∷ run (0 ∷ 1 ∷ 120 ∷ 2 ∷ 65 ∷ 66 ∷ 2 ∷ 6 ∷ 0 ∷ 1 ∷ 1 ∷ 1 ∷ 0 ∷ []) 5 192 20 (refusal 8) [] []
     -- question 8: a list may not name a witness
     ∷ run (0 ∷ 1 ∷ 120 ∷ 2 ∷ 65 ∷ 66 ∷ 2 ∷ 6 ∷ 0 ∷ 1 ∷ 11 ∷ 0 ∷ 1 ∷ 1 ∷ []) 5 192 20 (refusal 8) [] []
     -- question 8: a witness as an end
     ∷ run (1 ∷ 3 ∷ 0 ∷ 0 ∷ 2 ∷ 65 ∷ 66 ∷ 2 ∷ 6 ∷ 0 ∷ 1 ∷ 12 ∷ 0 ∷ 0 ∷ 1 ∷ []) 5 192 20 (refusal 8) [] []
-    -- question 8: a constraint may not name a negation's witness
-    ∷ run (0 ∷ 1 ∷ 120 ∷ 2 ∷ 65 ∷ 66 ∷ 2 ∷ 16 ∷ 0 ∷ 1 ∷ 1 ∷ 1 ∷ 0 ∷ []) 5 192 20 (refusal 8) [] []
     -- question 8: no term at all
     ∷ run (0 ∷ 0 ∷ 1 ∷ 65 ∷ 1 ∷ 1 ∷ 0 ∷ 0 ∷ []) 5 192 20 (refusal 8) [] []
     -- question 8: no set at all
@@ -272,14 +250,14 @@ table =
     ∷ run (0 ∷ 0 ∷ 1 ∷ 97 ∷ 49 ∷ []) 5 192 20 (refusal 5) [] []
     -- question 6 before 2: 49 constraints, none there
     ∷ run (0 ∷ 0 ∷ 0 ∷ 49 ∷ []) 5 192 20 (refusal 6) [] []
-    -- question 6 before 7: 49 constraints, kind 18
-    ∷ run (0 ∷ 0 ∷ 0 ∷ 49 ∷ 18 ∷ []) 5 192 20 (refusal 6) [] []
-    -- question 7 before 2: kind 18, nothing after
-    ∷ run (0 ∷ 0 ∷ 0 ∷ 1 ∷ 18 ∷ []) 5 192 20 (refusal 7) [] []
+    -- question 6 before 7: 49 constraints, kind 13
+    ∷ run (0 ∷ 0 ∷ 0 ∷ 49 ∷ 13 ∷ []) 5 192 20 (refusal 6) [] []
+    -- question 7 before 2: kind 13, nothing after
+    ∷ run (0 ∷ 0 ∷ 0 ∷ 1 ∷ 13 ∷ []) 5 192 20 (refusal 7) [] []
     -- question 7 before 2: kind 0, nothing after
     ∷ run (0 ∷ 0 ∷ 0 ∷ 1 ∷ 0 ∷ []) 5 192 20 (refusal 7) [] []
-    -- question 7 before 8: kind 18, operands out of bounds
-    ∷ run (0 ∷ 0 ∷ 0 ∷ 1 ∷ 18 ∷ 9 ∷ 9 ∷ []) 5 192 20 (refusal 7) [] []
+    -- question 7 before 8: kind 13, operands out of bounds
+    ∷ run (0 ∷ 0 ∷ 0 ∷ 1 ∷ 13 ∷ 9 ∷ 9 ∷ []) 5 192 20 (refusal 7) [] []
     -- question 2 before 8: first term out of bounds, set missing
     ∷ run (0 ∷ 1 ∷ 120 ∷ 1 ∷ 65 ∷ 1 ∷ 1 ∷ 9 ∷ []) 5 192 20 (refusal 2) [] []
     -- question 2 before 8: first set out of bounds, third missing
@@ -300,20 +278,20 @@ table =
     ∷ run (2 ∷ 3 ∷ 0 ∷ 5 ∷ 0 ∷ 0 ∷ 1 ∷ 65 ∷ 2 ∷ 12 ∷ 0 ∷ 0 ∷ 1 ∷ []) 5 192 20 (refusal 9) [] []
     -- question 8 before 2: term out of bounds, next constraint missing
     ∷ run (0 ∷ 1 ∷ 120 ∷ 1 ∷ 65 ∷ 2 ∷ 1 ∷ 1 ∷ 0 ∷ []) 5 192 20 (refusal 8) [] []
-    -- question 8 before 7: term out of bounds, next constraint of kind 18
-    ∷ run (0 ∷ 1 ∷ 120 ∷ 1 ∷ 65 ∷ 2 ∷ 1 ∷ 1 ∷ 0 ∷ 18 ∷ []) 5 192 20 (refusal 8) [] []
-    -- question 9 before 7: a gap, next constraint of kind 18
-    ∷ run (2 ∷ 3 ∷ 0 ∷ 5 ∷ 0 ∷ 0 ∷ 1 ∷ 65 ∷ 2 ∷ 12 ∷ 0 ∷ 0 ∷ 1 ∷ 18 ∷ []) 5 192 20 (refusal 9) [] []
+    -- question 8 before 7: term out of bounds, next constraint of kind 13
+    ∷ run (0 ∷ 1 ∷ 120 ∷ 1 ∷ 65 ∷ 2 ∷ 1 ∷ 1 ∷ 0 ∷ 13 ∷ []) 5 192 20 (refusal 8) [] []
+    -- question 9 before 7: a gap, next constraint of kind 13
+    ∷ run (2 ∷ 3 ∷ 0 ∷ 5 ∷ 0 ∷ 0 ∷ 1 ∷ 65 ∷ 2 ∷ 12 ∷ 0 ∷ 0 ∷ 1 ∷ 13 ∷ []) 5 192 20 (refusal 9) [] []
     -- question 9 before 8: a gap, set out of bounds in the next constraint
     ∷ run (2 ∷ 3 ∷ 0 ∷ 5 ∷ 0 ∷ 0 ∷ 1 ∷ 65 ∷ 2 ∷ 12 ∷ 0 ∷ 0 ∷ 1 ∷ 1 ∷ 0 ∷ 1 ∷ []) 5 192 20 (refusal 9) [] []
     -- question 7 before 8 of the next constraint
-    ∷ run (0 ∷ 1 ∷ 120 ∷ 1 ∷ 65 ∷ 2 ∷ 18 ∷ 1 ∷ 1 ∷ 0 ∷ []) 5 192 20 (refusal 7) [] []
+    ∷ run (0 ∷ 1 ∷ 120 ∷ 1 ∷ 65 ∷ 2 ∷ 13 ∷ 1 ∷ 1 ∷ 0 ∷ []) 5 192 20 (refusal 7) [] []
     -- question 8 before 10: term out of bounds, a byte left
     ∷ run (0 ∷ 1 ∷ 120 ∷ 1 ∷ 65 ∷ 1 ∷ 1 ∷ 1 ∷ 0 ∷ 0 ∷ []) 5 192 20 (refusal 8) [] []
     -- question 9 before 10: a gap, a byte left
     ∷ run (2 ∷ 3 ∷ 0 ∷ 5 ∷ 0 ∷ 0 ∷ 1 ∷ 65 ∷ 1 ∷ 12 ∷ 0 ∷ 0 ∷ 1 ∷ 0 ∷ []) 5 192 20 (refusal 9) [] []
-    -- question 7 before 10: kind 18, bytes left
-    ∷ run (0 ∷ 1 ∷ 120 ∷ 1 ∷ 65 ∷ 1 ∷ 18 ∷ 0 ∷ 0 ∷ 0 ∷ []) 5 192 20 (refusal 7) [] []
+    -- question 7 before 10: kind 13, bytes left
+    ∷ run (0 ∷ 1 ∷ 120 ∷ 1 ∷ 65 ∷ 1 ∷ 13 ∷ 0 ∷ 0 ∷ 0 ∷ []) 5 192 20 (refusal 7) [] []
     -- question 8 before 11: set out of bounds, 65 constants
     ∷ run ((65 ∷ []) ++ words_from 0 65 ++ (0 ∷ 1 ∷ 65 ∷ 1 ∷ 1 ∷ 0 ∷ 1 ∷ [])) 5 192 20 (refusal 8) [] []
     -- question 9 before 11: a gap, 65 constants
@@ -344,8 +322,8 @@ table =
     ∷ check (0 ∷ 0 ∷ 1 ∷ 97 ∷ 0 ∷ []) (0 ∷ 1 ∷ 5 ∷ 0 ∷ []) (declined 5)
     -- assignment check, question 6: 49 constraints
     ∷ check (0 ∷ 0 ∷ 0 ∷ 49 ∷ []) (0 ∷ []) (declined 6)
-    -- assignment check, question 7: kind 18
-    ∷ check (0 ∷ 1 ∷ 120 ∷ 1 ∷ 65 ∷ 1 ∷ 18 ∷ 0 ∷ 0 ∷ []) (1 ∷ 5 ∷ 0 ∷ 1 ∷ 5 ∷ 0 ∷ []) (declined 7)
+    -- assignment check, question 7: kind 13
+    ∷ check (0 ∷ 1 ∷ 120 ∷ 1 ∷ 65 ∷ 1 ∷ 13 ∷ 0 ∷ 0 ∷ []) (1 ∷ 5 ∷ 0 ∷ 1 ∷ 5 ∷ 0 ∷ []) (declined 7)
     -- assignment check, question 8: term out of bounds
     ∷ check (0 ∷ 1 ∷ 120 ∷ 1 ∷ 65 ∷ 1 ∷ 1 ∷ 1 ∷ 0 ∷ []) (1 ∷ 5 ∷ 0 ∷ 1 ∷ 5 ∷ 0 ∷ []) (declined 8)
     -- assignment check, question 9: a gap

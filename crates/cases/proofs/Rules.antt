@@ -1,5 +1,5 @@
 -- Printed by tests/print-cases from rows/Rules.rows: do not edit.
--- The twenty-nine rules: each one at work, rules that close a branch, and what no rule says.
+-- The twenty rules: each one at work, rules that close a branch, and what no rule says.
 use mathlib.Core.Path.{◌≡◌, refl}
 use mathlib.Core.List.{List, [], ◌∷◌, map}
 use Rattle.calculus.specs.Calls.{FORMS, FALSE, ended}
@@ -61,34 +61,6 @@ table =
     ∷ run (0 ∷ 2 ∷ 120 ∷ 121 ∷ 1 ∷ 65 ∷ 2 ∷ 1 ∷ 1 ∷ 0 ∷ 11 ∷ 0 ∷ 1 ∷ 0 ∷ []) 12 192 48 (ended FORMS 3 1) (0 ∷ 1 ∷ 0 ∷ 0 ∷ 1 ∷ 0 ∷ []) (1 ∷ 0 ∷ 1 ∷ 1 ∷ 19 ∷ 1 ∷ 0 ∷ 1 ∷ 20 ∷ 1 ∷ 1 ∷ 1 ∷ [])
     -- rule 20, an interval: x in A, A = [3, 3]
     ∷ run (1 ∷ 3 ∷ 0 ∷ 1 ∷ 120 ∷ 1 ∷ 65 ∷ 2 ∷ 1 ∷ 1 ∷ 0 ∷ 12 ∷ 0 ∷ 0 ∷ 0 ∷ []) 12 192 48 (ended FORMS 3 1) (0 ∷ 1 ∷ 0 ∷ 0 ∷ 1 ∷ 0 ∷ []) (1 ∷ 0 ∷ 1 ∷ 1 ∷ 19 ∷ 1 ∷ 0 ∷ 1 ∷ 20 ∷ 1 ∷ 1 ∷ 1 ∷ [])
-    -- rules 21 and 22: x in C, C is A without B
-    ∷ run (0 ∷ 1 ∷ 120 ∷ 3 ∷ 65 ∷ 66 ∷ 67 ∷ 2 ∷ 1 ∷ 0 ∷ 2 ∷ 13 ∷ 0 ∷ 1 ∷ 2 ∷ []) 12 192 48 (ended FORMS 3 1) (0 ∷ 5 ∷ 2 ∷ []) (1 ∷ 0 ∷ 0 ∷ 1 ∷ 21 ∷ 1 ∷ 0 ∷ 1 ∷ 22 ∷ 1 ∷ 0 ∷ 1 ∷ [])
-    -- rule 23: x in A, x not in B, C is A without B
-    ∷ run (0 ∷ 1 ∷ 120 ∷ 3 ∷ 65 ∷ 66 ∷ 67 ∷ 3 ∷ 1 ∷ 0 ∷ 0 ∷ 2 ∷ 0 ∷ 1 ∷ 13 ∷ 0 ∷ 1 ∷ 2 ∷ []) 12 192 48 (ended FORMS 3 1) (0 ∷ 5 ∷ 2 ∷ []) (1 ∷ 0 ∷ 0 ∷ 1 ∷ 2 ∷ 1 ∷ 0 ∷ 1 ∷ 23 ∷ 2 ∷ 0 ∷ 1 ∷ [])
-    -- rule 24: x in A, x not in C, C is A without B
-    ∷ run (0 ∷ 1 ∷ 120 ∷ 3 ∷ 65 ∷ 66 ∷ 67 ∷ 3 ∷ 1 ∷ 0 ∷ 0 ∷ 2 ∷ 0 ∷ 2 ∷ 13 ∷ 0 ∷ 1 ∷ 2 ∷ []) 12 192 48 (ended FORMS 3 1) (0 ∷ 3 ∷ 4 ∷ []) (1 ∷ 0 ∷ 0 ∷ 1 ∷ 2 ∷ 1 ∷ 0 ∷ 1 ∷ 24 ∷ 2 ∷ 0 ∷ 1 ∷ [])
-    -- rule 25, in B first, then out of B and in C: x in A, C is A without B
-    ∷ run (0 ∷ 1 ∷ 120 ∷ 3 ∷ 65 ∷ 66 ∷ 67 ∷ 2 ∷ 1 ∷ 0 ∷ 0 ∷ 13 ∷ 0 ∷ 1 ∷ 2 ∷ []) 12 192 48 (ended FORMS 2 2) (0 ∷ 3 ∷ 0 ∷ 0 ∷ 5 ∷ 2 ∷ []) (1 ∷ 0 ∷ 0 ∷ 1 ∷ 25 ∷ 1 ∷ 0 ∷ 2 ∷ [])
-    -- rule 25, the second child conflicts; in the first, rule 22 closes: x in A, B is A without B
-    ∷ run (0 ∷ 1 ∷ 120 ∷ 2 ∷ 65 ∷ 66 ∷ 2 ∷ 1 ∷ 0 ∷ 0 ∷ 13 ∷ 0 ∷ 1 ∷ 1 ∷ []) 12 192 48 (ended FALSE 3 0) [] (1 ∷ 0 ∷ 0 ∷ 1 ∷ 25 ∷ 1 ∷ 0 ∷ 1 ∷ 22 ∷ 1 ∷ 0 ∷ 0 ∷ [])
-    -- rule 26, three children: C ≠ A ∪ B
-    ∷ run (0 ∷ 0 ∷ 3 ∷ 65 ∷ 66 ∷ 67 ∷ 1 ∷ 14 ∷ 0 ∷ 1 ∷ 2 ∷ []) 12 192 48 (ended FORMS 1 3) (0 ∷ 4 ∷ 3 ∷ 0 ∷ 1 ∷ 4 ∷ 0 ∷ 2 ∷ 4 ∷ []) (26 ∷ 0 ∷ 0 ∷ 3 ∷ [])
-    -- rule 26, the first and the second child conflict: A ≠ A ∪ B
-    ∷ run (0 ∷ 0 ∷ 2 ∷ 65 ∷ 66 ∷ 1 ∷ 14 ∷ 0 ∷ 1 ∷ 0 ∷ []) 12 192 48 (ended FORMS 1 1) (0 ∷ 2 ∷ 1 ∷ []) (26 ∷ 0 ∷ 0 ∷ 1 ∷ [])
-    -- rule 26, the first and the third child conflict: B ≠ A ∪ B
-    ∷ run (0 ∷ 0 ∷ 2 ∷ 65 ∷ 66 ∷ 1 ∷ 14 ∷ 0 ∷ 1 ∷ 1 ∷ []) 12 192 48 (ended FORMS 1 1) (0 ∷ 1 ∷ 2 ∷ []) (26 ∷ 0 ∷ 0 ∷ 1 ∷ [])
-    -- rule 26, the second and the third child are alike: C ≠ A ∪ A
-    ∷ run (0 ∷ 0 ∷ 2 ∷ 65 ∷ 67 ∷ 1 ∷ 14 ∷ 0 ∷ 0 ∷ 1 ∷ []) 12 192 48 (ended FORMS 1 3) (0 ∷ 2 ∷ 1 ∷ 0 ∷ 1 ∷ 2 ∷ 0 ∷ 1 ∷ 2 ∷ []) (26 ∷ 0 ∷ 0 ∷ 3 ∷ [])
-    -- rule 27, one child: A and B share something
-    ∷ run (0 ∷ 0 ∷ 2 ∷ 65 ∷ 66 ∷ 1 ∷ 15 ∷ 0 ∷ 1 ∷ []) 12 192 48 (ended FORMS 1 1) (0 ∷ 3 ∷ 0 ∷ []) (27 ∷ 0 ∷ 0 ∷ 1 ∷ [])
-    -- rule 28, one child: A is no subset of B
-    ∷ run (0 ∷ 0 ∷ 2 ∷ 65 ∷ 66 ∷ 1 ∷ 16 ∷ 0 ∷ 1 ∷ []) 12 192 48 (ended FORMS 1 1) (0 ∷ 1 ∷ 2 ∷ []) (28 ∷ 0 ∷ 0 ∷ 1 ∷ [])
-    -- rule 29, three children: C ≠ A ∩ B
-    ∷ run (0 ∷ 0 ∷ 3 ∷ 65 ∷ 66 ∷ 67 ∷ 1 ∷ 17 ∷ 0 ∷ 1 ∷ 2 ∷ []) 12 192 48 (ended FORMS 1 3) (0 ∷ 4 ∷ 1 ∷ 0 ∷ 4 ∷ 2 ∷ 0 ∷ 3 ∷ 4 ∷ []) (29 ∷ 0 ∷ 0 ∷ 3 ∷ [])
-    -- rule 29, the first and the third child conflict: A ≠ A ∩ B
-    ∷ run (0 ∷ 0 ∷ 2 ∷ 65 ∷ 66 ∷ 1 ∷ 17 ∷ 0 ∷ 1 ∷ 0 ∷ []) 12 192 48 (ended FORMS 1 1) (0 ∷ 1 ∷ 2 ∷ []) (29 ∷ 0 ∷ 0 ∷ 1 ∷ [])
-    -- rule 29, the second and the third child conflict: B ≠ A ∩ B
-    ∷ run (0 ∷ 0 ∷ 2 ∷ 65 ∷ 66 ∷ 1 ∷ 17 ∷ 0 ∷ 1 ∷ 1 ∷ []) 12 192 48 (ended FORMS 1 1) (0 ∷ 2 ∷ 1 ∷ []) (29 ∷ 0 ∷ 0 ∷ 1 ∷ [])
     -- rule 1 closes: x not in A, x in A
     ∷ run (0 ∷ 1 ∷ 120 ∷ 1 ∷ 65 ∷ 2 ∷ 2 ∷ 0 ∷ 0 ∷ 1 ∷ 0 ∷ 0 ∷ []) 12 192 48 (ended FALSE 2 0) [] (2 ∷ 0 ∷ 0 ∷ 1 ∷ 1 ∷ 1 ∷ 0 ∷ 0 ∷ [])
     -- rule 2 closes: x in A, x not in A
@@ -127,20 +99,6 @@ table =
     ∷ run (2 ∷ 3 ∷ 0 ∷ 4 ∷ 0 ∷ 0 ∷ 1 ∷ 65 ∷ 2 ∷ 1 ∷ 1 ∷ 0 ∷ 11 ∷ 0 ∷ 1 ∷ 0 ∷ []) 12 192 48 (ended FALSE 3 0) [] (1 ∷ 0 ∷ 1 ∷ 1 ∷ 19 ∷ 1 ∷ 0 ∷ 1 ∷ 20 ∷ 1 ∷ 1 ∷ 0 ∷ [])
     -- rule 20 closes, no entry: x in A, A = [4, 3]
     ∷ run (2 ∷ 3 ∷ 0 ∷ 4 ∷ 0 ∷ 1 ∷ 120 ∷ 1 ∷ 65 ∷ 2 ∷ 1 ∷ 2 ∷ 0 ∷ 12 ∷ 0 ∷ 1 ∷ 0 ∷ []) 12 192 48 (ended FALSE 2 0) [] (1 ∷ 0 ∷ 2 ∷ 1 ∷ 20 ∷ 1 ∷ 2 ∷ 0 ∷ [])
-    -- rule 21 closes: x in C, x not in A, C is A without B
-    ∷ run (0 ∷ 1 ∷ 120 ∷ 3 ∷ 65 ∷ 66 ∷ 67 ∷ 3 ∷ 1 ∷ 0 ∷ 2 ∷ 2 ∷ 0 ∷ 0 ∷ 13 ∷ 0 ∷ 1 ∷ 2 ∷ []) 12 192 48 (ended FALSE 3 0) [] (1 ∷ 0 ∷ 0 ∷ 1 ∷ 2 ∷ 1 ∷ 0 ∷ 1 ∷ 21 ∷ 2 ∷ 0 ∷ 0 ∷ [])
-    -- rule 22 closes: x in B, x in C, C is A without B
-    ∷ run (0 ∷ 1 ∷ 120 ∷ 3 ∷ 65 ∷ 66 ∷ 67 ∷ 3 ∷ 1 ∷ 0 ∷ 1 ∷ 1 ∷ 0 ∷ 2 ∷ 13 ∷ 0 ∷ 1 ∷ 2 ∷ []) 12 192 48 (ended FALSE 4 0) [] (1 ∷ 0 ∷ 0 ∷ 1 ∷ 1 ∷ 1 ∷ 0 ∷ 1 ∷ 21 ∷ 2 ∷ 0 ∷ 1 ∷ 22 ∷ 2 ∷ 0 ∷ 0 ∷ [])
-    -- rule 22 closes, a set without itself is empty: x in C, C is A without A
-    ∷ run (0 ∷ 1 ∷ 120 ∷ 2 ∷ 65 ∷ 67 ∷ 2 ∷ 1 ∷ 0 ∷ 1 ∷ 13 ∷ 0 ∷ 0 ∷ 1 ∷ []) 12 192 48 (ended FALSE 3 0) [] (1 ∷ 0 ∷ 0 ∷ 1 ∷ 21 ∷ 1 ∷ 0 ∷ 1 ∷ 22 ∷ 1 ∷ 0 ∷ 0 ∷ [])
-    -- rule 23 closes, before rule 24: x in A, x not in B, x not in C, C is A without B
-    ∷ run (0 ∷ 1 ∷ 120 ∷ 3 ∷ 65 ∷ 66 ∷ 67 ∷ 4 ∷ 1 ∷ 0 ∷ 0 ∷ 2 ∷ 0 ∷ 1 ∷ 2 ∷ 0 ∷ 2 ∷ 13 ∷ 0 ∷ 1 ∷ 2 ∷ []) 12 192 48 (ended FALSE 4 0) [] (1 ∷ 0 ∷ 0 ∷ 1 ∷ 2 ∷ 1 ∷ 0 ∷ 1 ∷ 2 ∷ 2 ∷ 0 ∷ 1 ∷ 23 ∷ 3 ∷ 0 ∷ 0 ∷ [])
-    -- rule 26 closes, all three children conflict: A ≠ A ∪ A
-    ∷ run (0 ∷ 0 ∷ 1 ∷ 65 ∷ 1 ∷ 14 ∷ 0 ∷ 0 ∷ 0 ∷ []) 12 192 48 (ended FALSE 1 0) [] (26 ∷ 0 ∷ 0 ∷ 0 ∷ [])
-    -- rule 28 closes, its only child conflicts: A is no subset of A
-    ∷ run (0 ∷ 0 ∷ 1 ∷ 65 ∷ 1 ∷ 16 ∷ 0 ∷ 0 ∷ []) 12 192 48 (ended FALSE 1 0) [] (28 ∷ 0 ∷ 0 ∷ 0 ∷ [])
-    -- rule 29 closes, all three children conflict: A ≠ A ∩ A
-    ∷ run (0 ∷ 0 ∷ 1 ∷ 65 ∷ 1 ∷ 17 ∷ 0 ∷ 0 ∷ 0 ∷ []) 12 192 48 (ended FALSE 1 0) [] (29 ∷ 0 ∷ 0 ∷ 0 ∷ [])
     -- nothing applies: x = x
     ∷ run (0 ∷ 1 ∷ 120 ∷ 0 ∷ 1 ∷ 3 ∷ 0 ∷ 0 ∷ []) 12 192 48 (ended FORMS 0 1) (0 ∷ 0 ∷ 0 ∷ []) []
     -- a known fact is not asserted again: x in A, x in A, A = {x}
@@ -171,18 +129,6 @@ table =
     ∷ run (0 ∷ 1 ∷ 120 ∷ 3 ∷ 65 ∷ 66 ∷ 67 ∷ 3 ∷ 1 ∷ 0 ∷ 1 ∷ 2 ∷ 0 ∷ 2 ∷ 10 ∷ 0 ∷ 1 ∷ 2 ∷ []) 12 192 48 (ended FORMS 2 1) (0 ∷ 2 ∷ 4 ∷ []) (1 ∷ 0 ∷ 0 ∷ 1 ∷ 2 ∷ 1 ∷ 0 ∷ 1 ∷ [])
     -- no rule of a union says that what is out of A and of B is out of C: x not in A, x not in B, C = A ∪ B
     ∷ run (0 ∷ 1 ∷ 120 ∷ 3 ∷ 65 ∷ 66 ∷ 67 ∷ 3 ∷ 2 ∷ 0 ∷ 0 ∷ 2 ∷ 0 ∷ 1 ∷ 7 ∷ 0 ∷ 1 ∷ 2 ∷ []) 12 192 48 (ended FORMS 2 1) (0 ∷ 0 ∷ 3 ∷ []) (2 ∷ 0 ∷ 0 ∷ 1 ∷ 2 ∷ 1 ∷ 0 ∷ 1 ∷ [])
-    -- no rule of a difference for out of A, in B, out of B or out of C alone: w not in A, x in B, y not in B, z not in C, C is A without B
-    ∷ run (0 ∷ 4 ∷ 119 ∷ 120 ∷ 121 ∷ 122 ∷ 3 ∷ 65 ∷ 66 ∷ 67 ∷ 5 ∷ 2 ∷ 0 ∷ 0 ∷ 1 ∷ 1 ∷ 1 ∷ 2 ∷ 2 ∷ 1 ∷ 2 ∷ 3 ∷ 2 ∷ 13 ∷ 0 ∷ 1 ∷ 2 ∷ []) 12 192 48 (ended FORMS 4 1) (0 ∷ 0 ∷ 1 ∷ 1 ∷ 2 ∷ 0 ∷ 2 ∷ 0 ∷ 2 ∷ 3 ∷ 0 ∷ 4 ∷ []) (2 ∷ 0 ∷ 0 ∷ 1 ∷ 1 ∷ 1 ∷ 1 ∷ 1 ∷ 2 ∷ 2 ∷ 2 ∷ 1 ∷ 2 ∷ 3 ∷ 3 ∷ 1 ∷ [])
-    -- no rule of a difference for two facts, the third undecided: u in B, u not in C, v not in B, v not in C, x not in A, x not in C, y not in A, y in B, z not in A, z not in B, C is A without B
-    ∷ run (0 ∷ 5 ∷ 117 ∷ 118 ∷ 120 ∷ 121 ∷ 122 ∷ 3 ∷ 65 ∷ 66 ∷ 67 ∷ 11 ∷ 1 ∷ 0 ∷ 1 ∷ 2 ∷ 0 ∷ 2 ∷ 2 ∷ 1 ∷ 1 ∷ 2 ∷ 1 ∷ 2 ∷ 2 ∷ 2 ∷ 0 ∷ 2 ∷ 2 ∷ 2 ∷ 2 ∷ 3 ∷ 0 ∷ 1 ∷ 3 ∷ 1 ∷ 2 ∷ 4 ∷ 0 ∷ 2 ∷ 4 ∷ 1 ∷ 13 ∷ 0 ∷ 1 ∷ 2 ∷ []) 12 192 48 (ended FORMS 10 1) (0 ∷ 2 ∷ 4 ∷ 1 ∷ 0 ∷ 6 ∷ 2 ∷ 0 ∷ 5 ∷ 3 ∷ 2 ∷ 1 ∷ 4 ∷ 0 ∷ 3 ∷ []) (1 ∷ 0 ∷ 0 ∷ 1 ∷ 2 ∷ 1 ∷ 0 ∷ 1 ∷ 2 ∷ 2 ∷ 1 ∷ 1 ∷ 2 ∷ 3 ∷ 1 ∷ 1 ∷ 2 ∷ 4 ∷ 2 ∷ 1 ∷ 2 ∷ 5 ∷ 2 ∷ 1 ∷ 2 ∷ 6 ∷ 3 ∷ 1 ∷ 1 ∷ 7 ∷ 3 ∷ 1 ∷ 2 ∷ 8 ∷ 4 ∷ 1 ∷ 2 ∷ 9 ∷ 4 ∷ 1 ∷ [])
-    -- no rule of a union for two facts, the third undecided: x not in B, x not in C, y not in A, y not in C, C = A ∪ B
-    ∷ run (0 ∷ 2 ∷ 120 ∷ 121 ∷ 3 ∷ 65 ∷ 66 ∷ 67 ∷ 5 ∷ 2 ∷ 0 ∷ 1 ∷ 2 ∷ 0 ∷ 2 ∷ 2 ∷ 1 ∷ 0 ∷ 2 ∷ 1 ∷ 2 ∷ 7 ∷ 0 ∷ 1 ∷ 2 ∷ []) 12 192 48 (ended FORMS 4 1) (0 ∷ 0 ∷ 6 ∷ 1 ∷ 0 ∷ 5 ∷ []) (2 ∷ 0 ∷ 0 ∷ 1 ∷ 2 ∷ 1 ∷ 0 ∷ 1 ∷ 2 ∷ 2 ∷ 1 ∷ 1 ∷ 2 ∷ 3 ∷ 1 ∷ 1 ∷ [])
-    -- no rule of an intersection for out of C or in A alone, nor for two facts: t not in C, u not in B, u not in C, v in A, w in A, w not in B, x not in A, x not in C, y not in A, y in B, z not in A, z not in B, C = A ∩ B
-    ∷ run (0 ∷ 7 ∷ 116 ∷ 117 ∷ 118 ∷ 119 ∷ 120 ∷ 121 ∷ 122 ∷ 3 ∷ 65 ∷ 66 ∷ 67 ∷ 13 ∷ 2 ∷ 0 ∷ 2 ∷ 2 ∷ 1 ∷ 1 ∷ 2 ∷ 1 ∷ 2 ∷ 1 ∷ 2 ∷ 0 ∷ 1 ∷ 3 ∷ 0 ∷ 2 ∷ 3 ∷ 1 ∷ 2 ∷ 4 ∷ 0 ∷ 2 ∷ 4 ∷ 2 ∷ 2 ∷ 5 ∷ 0 ∷ 1 ∷ 5 ∷ 1 ∷ 2 ∷ 6 ∷ 0 ∷ 2 ∷ 6 ∷ 1 ∷ 10 ∷ 0 ∷ 1 ∷ 2 ∷ []) 12 192 48 (ended FORMS 12 1) (0 ∷ 0 ∷ 4 ∷ 1 ∷ 0 ∷ 6 ∷ 2 ∷ 1 ∷ 0 ∷ 3 ∷ 1 ∷ 2 ∷ 4 ∷ 0 ∷ 5 ∷ 5 ∷ 2 ∷ 1 ∷ 6 ∷ 0 ∷ 3 ∷ []) (2 ∷ 0 ∷ 0 ∷ 1 ∷ 2 ∷ 1 ∷ 1 ∷ 1 ∷ 2 ∷ 2 ∷ 1 ∷ 1 ∷ 1 ∷ 3 ∷ 2 ∷ 1 ∷ 1 ∷ 4 ∷ 3 ∷ 1 ∷ 2 ∷ 5 ∷ 3 ∷ 1 ∷ 2 ∷ 6 ∷ 4 ∷ 1 ∷ 2 ∷ 7 ∷ 4 ∷ 1 ∷ 2 ∷ 8 ∷ 5 ∷ 1 ∷ 1 ∷ 9 ∷ 5 ∷ 1 ∷ 2 ∷ 10 ∷ 6 ∷ 1 ∷ 2 ∷ 11 ∷ 6 ∷ 1 ∷ [])
-    -- no split for in A and in B, C undecided: x in A, x in B, C is A without B
-    ∷ run (0 ∷ 1 ∷ 120 ∷ 3 ∷ 65 ∷ 66 ∷ 67 ∷ 3 ∷ 1 ∷ 0 ∷ 0 ∷ 1 ∷ 0 ∷ 1 ∷ 13 ∷ 0 ∷ 1 ∷ 2 ∷ []) 12 192 48 (ended FORMS 2 1) (0 ∷ 3 ∷ 0 ∷ []) (1 ∷ 0 ∷ 0 ∷ 1 ∷ 1 ∷ 1 ∷ 0 ∷ 1 ∷ [])
-    -- no split where B is A: x in A, C is A without A
-    ∷ run (0 ∷ 1 ∷ 120 ∷ 2 ∷ 65 ∷ 67 ∷ 2 ∷ 1 ∷ 0 ∷ 0 ∷ 13 ∷ 0 ∷ 0 ∷ 1 ∷ []) 12 192 48 (ended FORMS 1 1) (0 ∷ 1 ∷ 0 ∷ []) (1 ∷ 0 ∷ 0 ∷ 1 ∷ [])
     ∷ []
 
 pub rows_hold : map given table ≡ map expected table

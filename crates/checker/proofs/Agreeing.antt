@@ -51,7 +51,7 @@ module _ (n s : ℕ) (v w : Valuation) (a : Agree n s v w) where
   tests_agree cs k e (same t u) r = rw (a.numbers t r.0, a.numbers u r.1) refl
   tests_agree cs k e (different t u) r = rw (a.numbers t r.0, a.numbers u r.1) refl
   tests_agree cs k e (relation q A B C) r = rw (a.sets A r.0, a.sets B r.1, a.sets C r.2) refl
-  tests_agree cs k e (negation q A B C u) r = rw (a.sets A r.0, a.sets B r.1, a.sets C r.2) refl
+  tests_agree cs k e (negation q A B C u) r = rw (a.sets A r.0, a.sets B r.1, a.sets C (subst (λ (X : SetVar). X.index < s) (sym r.2) r.0)) refl
   tests_agree cs k e (exactly A es) r = listed A es r.0 r.1
   tests_agree cs k e (interval A i j es) r = listed A es r.0 (rw r.4 (terms_each (λ t. t.index < n) i.index (suc j.index - i.index) (λ t l h. omega (arith, r.1, r.2))))
 

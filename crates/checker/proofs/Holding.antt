@@ -15,7 +15,7 @@ use Rattle.calculus.specs.Lists.{all, Each}
 use Rattle.calculus.specs.Terms.{Term, SetVar, term, set_var}
 use Rattle.calculus.specs.Meaning.{Constraint, Valuation}
 use Rattle.calculus.specs.Problem.{Problem, nameable, set_count, Refers}
-use Rattle.calculus.specs.Relations.{Relation}
+use Rattle.calculus.specs.Relations.{Relation, equal, denies}
 use Rattle.calculus.specs.Reading.{parsed, read, words, signed, eq_z}
 use Rattle.calculus.specs.Check.{has, relates?, exactly?, holds?, lowest}
 use Rattle.calculus.proofs.Bools.{all_map}
@@ -29,7 +29,9 @@ use Rattle.constraints.specs.declared.Constraint as code
 use Rattle.constraints.specs.declared.Constraint.TheVariants.{Listed}
 use Rattle.constraints.specs.declared.Entries.{Entries}
 use Rattle.constraints.specs.declared.Entries.TheVariants.{Written, Interval}
-use Rattle.constraints.specs.Decoded.{list_of, decoded, Unpacked}
+use Rattle.constraints.specs.declared.Negation as codeNegation
+use Rattle.constraints.specs.declared.Negation.TheVariants.{Unequal}
+use Rattle.constraints.specs.Decoded.{list_of, decoded, negation_of, Unpacked}
 use Rattle.assignment.specs.declared.Layout.{Layout}
 use Rattle.assignment.specs.Laid.{members_at}
 use Rattle.checker.specs.Tested.{value_at, seen, Readable, entries_in, Fitting, failing}
@@ -98,10 +100,9 @@ module _ (bs : List ℕ) (tab : Table) (hs : List ℕ) (at : Layout) where
   pub same_test : (x y t u : ℕ) → (signed x ≡ value_at bs tab hs t) × (x < 65536) → (signed y ≡ value_at bs tab hs u) × (y < 65536) → eqb x y ≡ eq_z (here.num (term t)) (here.num (term u))
   same_test x y t u ex ey = sym (same_number x y ex.1 ey.1) ∙ ap₂ eq_z ex.0 ey.0
 
-  -- the code's relation j is k
-  pub relates_test : (b : Bool) (j k : Relation) → j ≡ k → (l m r : List ℕ) (A B C : ℕ) → l ≡ members_at hs at A → m ≡ members_at hs at B → r ≡ members_at hs at C → b ≡ relates? j (words l) (words m) (words r)
+  pub relates_test : (b : Bool) (k : Relation) (l m r : List ℕ) (A B C : ℕ) → l ≡ members_at hs at A → m ≡ members_at hs at B → r ≡ members_at hs at C → b ≡ relates? k (words l) (words m) (words r)
       → b ≡ relates? k (here.members (set_var A)) (here.members (set_var B)) (here.members (set_var C))
-  relates_test b j k q l m r A B C el em er e = rw (sym q, sym el, sym em, sym er) e
+  relates_test b k l m r A B C el em er e = rw (sym el, sym em, sym er) e
 
   exact : (k : Entries) (A : SetVar) (ts : List Term) → exactly? here A ts ≡ holds? here (list_of k A ts)
   exact Written A ts = refl
@@ -113,6 +114,13 @@ module _ (bs : List ℕ) (tab : Table) (hs : List ℕ) (at : Layout) where
       (ap (λ (ys : List ℤ). all (has ys) (words (members_at hs at A))) (sym (map_map (λ (t : Term). value_at bs tab hs t.index) term es)))
       (sym (all_map (λ (t : Term). has (words (members_at hs at A)) (value_at bs tab hs t.index)) term es))
       ∙ exact k (set_var A) (map term es)
+
+-- what a negation denies is equality
+pub negated_relates : (n : codeNegation.Negation) (b : Bool) (l m r : List ℤ) → b ≡ relates? equal l m r → b ≡ relates? (denies (negation_of n)) l m r
+negated_relates Unequal b l m r e = e
+
+pub same_set : {A C : SetVar} {n : ℕ} → C ≡ A → A.index < n → C.index < n
+same_set {n = n} e l = subst (λ (X : SetVar). X.index < n) (sym e) l
 
 -- ---- the lowest that fails
 

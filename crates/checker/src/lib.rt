@@ -2,15 +2,15 @@
 ghost use Rattle.std.specs.Prelude.{◌≡◌, map, ◌+◌, ◌≤◌, ◌<◌};
 ghost use Rattle.calculus.specs.Limits.{most_terms};
 ghost use Rattle.calculus.specs.Lists.{up_from, all, Each};
-ghost use Rattle.calculus.specs.Relations.{holds_at, denies};
+ghost use Rattle.calculus.specs.Relations.{holds_at};
 ghost use Rattle.calculus.specs.Reading.{read, signed, words};
 ghost use Rattle.calculus.specs.Check.{has, relates?, holds?, lowest};
 ghost use Rattle.problem.specs.Table.{Opened, constraints_of, constraint_of};
-ghost use Rattle.constraints.specs.Decoded.{relation_of, negation_of};
+ghost use Rattle.constraints.specs.Decoded.{relation_of};
 ghost use Rattle.checker.specs.Tested.{related_at, value_at, seen, Readable, entries_in, Fitting, failing};
 
 use assignment::{Layout, members};
-use constraints::{Constraint, Negation, Relation, decode, entries_of};
+use constraints::{Constraint, Relation, decode, entries_of};
 use problem::Table;
 use slices::{term_numbers, word};
 use terms::Term;
@@ -38,7 +38,6 @@ fn at_point(k: Relation, a: bool, b: bool, c: bool) -> bool
         Relation::Disjoint => !(a & b),
         Relation::Subset => !a | b,
         Relation::Intersection => c == (a & b),
-        Relation::Difference => c == (a & !b),
     }
 }
 
@@ -70,19 +69,6 @@ fn relates(k: Relation, l: &[u8], m: &[u8], r: &[u8]) -> bool
         return false;
     }
     holds_at(k, r, l, m, r)
-}
-
-// The relation that a negation denies.
-fn denies(k: Negation) -> Relation
-    ensures { relation_of result ≡ denies (negation_of k) }
-{
-    match k {
-        Negation::Unequal => Relation::Equal,
-        Negation::Nonunion => Relation::Union,
-        Negation::Overlap => Relation::Disjoint,
-        Negation::Nonsubset => Relation::Subset,
-        Negation::Nonintersection => Relation::Intersection,
-    }
 }
 
 // The value of a term that a constraint can name: its two bytes in the problem or in the assignment.
@@ -165,11 +151,11 @@ fn holds<'a>(
             let z = members(assignment, at, c);
             relates(k, x, y, z)
         }
-        Constraint::Negated(k, a, b, c, _) => {
+        Constraint::Negated(_, a, b, c, _) => {
             let x = members(assignment, at, a);
             let y = members(assignment, at, b);
             let z = members(assignment, at, c);
-            !relates(denies(k), x, y, z)
+            !relates(Relation::Equal, x, y, z)
         }
         Constraint::Listed(_, a) => exactly(
             problem,

@@ -7,8 +7,6 @@ use native.Mathlib.Omega.{arith}
 use lib.ListN.{length, get_or, take, drop, length-append, length-drop, length-map}
 use lib.Seq.{get_or-drop}
 use lib.IntN.{ℤ}
-use lib.Dec.{T}
-use mir.Val.{has_key}
 use types.Run.{OneOf, miss}
 use denote.Enum.Declared.{tag_of}
 use Rattle.calculus.specs.Limits.{most_bytes, most_sets, most_constraints, most_terms}
@@ -56,11 +54,6 @@ of_kind k p q s w es =
     ∷ calculus.relation relations.intersection (set_var p) (set_var q) (set_var s)
     ∷ calculus.exactly (set_var p) es
     ∷ calculus.interval (set_var p) (term q) (term s) es
-    ∷ calculus.relation relations.difference (set_var p) (set_var q) (set_var s)
-    ∷ calculus.negation relations.nonunion (set_var p) (set_var q) (set_var s) (term w)
-    ∷ calculus.negation relations.overlap (set_var p) (set_var q) (set_var p) (term w)
-    ∷ calculus.negation relations.nonsubset (set_var p) (set_var q) (set_var p) (term w)
-    ∷ calculus.negation relations.nonintersection (set_var p) (set_var q) (set_var s) (term w)
     ∷ []
     ) k no_constraint
 
@@ -77,37 +70,27 @@ by_kind cs N S w rest (calculus.relation relations.union A B C) a h = refl
 by_kind cs N S w rest (calculus.relation relations.disjoint A B C) a h = ap (calculus.relation relations.disjoint A B) a.3
 by_kind cs N S w rest (calculus.relation relations.subset A B C) a h = ap (calculus.relation relations.subset A B) a.3
 by_kind cs N S w rest (calculus.relation relations.intersection A B C) a h = refl
-by_kind cs N S w rest (calculus.relation relations.difference A B C) a h = refl
-by_kind cs N S w rest (calculus.negation relations.unequal A B C u) a h = ap₂ (calculus.negation relations.unequal A B) a.3 (sym (h relations.unequal A B C u refl))
-by_kind cs N S w rest (calculus.negation relations.nonunion A B C u) a h = ap (calculus.negation relations.nonunion A B C) (sym (h relations.nonunion A B C u refl))
-by_kind cs N S w rest (calculus.negation relations.overlap A B C u) a h = ap₂ (calculus.negation relations.overlap A B) a.3 (sym (h relations.overlap A B C u refl))
-by_kind cs N S w rest (calculus.negation relations.nonsubset A B C u) a h = ap₂ (calculus.negation relations.nonsubset A B) a.3 (sym (h relations.nonsubset A B C u refl))
-by_kind cs N S w rest (calculus.negation relations.nonintersection A B C u) a h = ap (calculus.negation relations.nonintersection A B C) (sym (h relations.nonintersection A B C u refl))
+by_kind cs N S w rest (calculus.negation relations.unequal A B C u) a h = ap₂ (calculus.negation relations.unequal A B) a.2 (sym (h relations.unequal A B C u refl))
 by_kind cs N S w rest (calculus.exactly A es) a h = refl
 by_kind cs N S w rest (calculus.interval A i j es) a h = refl
 
 -- the kinds of three operands
 abbrev three : List ℕ
-three = 7 ∷ 10 ∷ 12 ∷ 13 ∷ 14 ∷ 17 ∷ []
+three = 7 ∷ 10 ∷ 12 ∷ []
 
--- kinds are 1 to 17, and at least two operands are written, three for the kinds above
-kind_sizes : (x : calculus.Constraint) → (1 ≤ kind_of x) × (kind_of x ≤ 17) × (3 ≤ length (encode_constraint x)) × (T (has_key three (kind_of x)) → 4 ≤ length (encode_constraint x))
-kind_sizes (calculus.member t A) = (omega arith, omega arith, omega arith, λ h. absurd h)
-kind_sizes (calculus.nonmember t A) = (omega arith, omega arith, omega arith, λ h. absurd h)
-kind_sizes (calculus.same t u) = (omega arith, omega arith, omega arith, λ h. absurd h)
-kind_sizes (calculus.different t u) = (omega arith, omega arith, omega arith, λ h. absurd h)
-kind_sizes (calculus.relation relations.equal A B C) = (omega arith, omega arith, omega arith, λ h. absurd h)
+-- kinds are 1 to 12, and at least two operands are written, three for the kinds above
+kind_sizes : (x : calculus.Constraint) → (1 ≤ kind_of x) × (kind_of x ≤ 12) × (3 ≤ length (encode_constraint x)) × (OneOf three (kind_of x) → 4 ≤ length (encode_constraint x))
+kind_sizes (calculus.member t A) = (omega arith, omega arith, omega arith, λ h. absurd (miss three 1 tt h))
+kind_sizes (calculus.nonmember t A) = (omega arith, omega arith, omega arith, λ h. absurd (miss three 2 tt h))
+kind_sizes (calculus.same t u) = (omega arith, omega arith, omega arith, λ h. absurd (miss three 3 tt h))
+kind_sizes (calculus.different t u) = (omega arith, omega arith, omega arith, λ h. absurd (miss three 4 tt h))
+kind_sizes (calculus.relation relations.equal A B C) = (omega arith, omega arith, omega arith, λ h. absurd (miss three 5 tt h))
 kind_sizes (calculus.relation relations.union A B C) = (omega arith, omega arith, omega arith, λ h. omega arith)
-kind_sizes (calculus.relation relations.disjoint A B C) = (omega arith, omega arith, omega arith, λ h. absurd h)
-kind_sizes (calculus.relation relations.subset A B C) = (omega arith, omega arith, omega arith, λ h. absurd h)
+kind_sizes (calculus.relation relations.disjoint A B C) = (omega arith, omega arith, omega arith, λ h. absurd (miss three 8 tt h))
+kind_sizes (calculus.relation relations.subset A B C) = (omega arith, omega arith, omega arith, λ h. absurd (miss three 9 tt h))
 kind_sizes (calculus.relation relations.intersection A B C) = (omega arith, omega arith, omega arith, λ h. omega arith)
-kind_sizes (calculus.relation relations.difference A B C) = (omega arith, omega arith, omega arith, λ h. omega arith)
-kind_sizes (calculus.negation relations.unequal A B C u) = (omega arith, omega arith, omega arith, λ h. absurd h)
-kind_sizes (calculus.negation relations.nonunion A B C u) = (omega arith, omega arith, omega arith, λ h. omega arith)
-kind_sizes (calculus.negation relations.overlap A B C u) = (omega arith, omega arith, omega arith, λ h. absurd h)
-kind_sizes (calculus.negation relations.nonsubset A B C u) = (omega arith, omega arith, omega arith, λ h. absurd h)
-kind_sizes (calculus.negation relations.nonintersection A B C u) = (omega arith, omega arith, omega arith, λ h. omega arith)
-kind_sizes (calculus.exactly A es) = (omega arith, omega arith, omega arith, λ h. absurd h)
+kind_sizes (calculus.negation relations.unequal A B C u) = (omega arith, omega arith, omega arith, λ h. absurd (miss three 6 tt h))
+kind_sizes (calculus.exactly A es) = (omega arith, omega arith, omega arith, λ h. absurd (miss three 11 tt h))
 kind_sizes (calculus.interval A i j es) = (omega arith, omega arith, omega arith, λ h. omega arith)
 
 -- k is none of 1 to n, as the last arm of a match knows it
@@ -210,20 +193,20 @@ module _ (bs : List ℕ) (i at : ℕ) (st : Stands bs i at) where
   here_length : length bs - at ≡ length (encode_constraint this) + length place.rest
   here_length = sym (length-drop at bs) ∙ ap length here ∙ length-append (encode_constraint this) place.rest
 
-  -- a kind byte that is none of 1 to 16 is 17
-  pub last_kind : NoneTo 16 (get_or bs at 0) → get_or bs at 0 ≡ 17
+  -- a kind byte that is none of 1 to 11 is 12
+  pub last_kind : NoneTo 11 (get_or bs at 0) → get_or bs at 0 ≡ 12
   last_kind h =
       let k = kind_sizes this in
       let l : 1 ≤ get_or bs at 0 = omega (arith, k.0, kind_here) in
-      omega (arith, above 16 (get_or bs at 0) l h, k.1, kind_here)
+      omega (arith, above 11 (get_or bs at 0) l h, k.1, kind_here)
 
   -- two operands are there
   pub two_operands : (i < most_constraints) × (at + 2 < length bs) × (length bs ≤ most_bytes)
   two_operands = (place.small, omega (arith, (kind_sizes this).2, here_length), place.short)
 
   -- a third is there where the kind has one
-  pub third_operand : (k : ℕ) → get_or bs at 0 ≡ k → T (has_key three k) → at + 3 < length bs
-  third_operand k e h = omega (arith, (kind_sizes this).3 (subst (λ (j : ℕ). T (has_key three j)) (sym e ∙ kind_here) h), here_length)
+  pub third_operand : OneOf three (get_or bs at 0) → at + 3 < length bs
+  third_operand h = omega (arith, (kind_sizes this).3 (subst (OneOf three) kind_here h), here_length)
 
   abbrev prob : Problem
   prob = (opened bs st.tab st.opened).prob

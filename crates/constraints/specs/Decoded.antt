@@ -8,9 +8,9 @@ use Rattle.calculus.specs.Invariants.{ConstraintIn}
 use Rattle.problem.specs.Table.{constraint_of}
 use Rattle.places.specs.Places.{entries_of}
 use Rattle.constraints.specs.declared.Relation.{Relation}
-use Rattle.constraints.specs.declared.Relation.TheVariants.{Equal, Union, Disjoint, Subset, Intersection, Difference}
+use Rattle.constraints.specs.declared.Relation.TheVariants.{Equal, Union, Disjoint, Subset, Intersection}
 use Rattle.constraints.specs.declared.Negation.{Negation}
-use Rattle.constraints.specs.declared.Negation.TheVariants.{Unequal, Nonunion, Overlap, Nonsubset, Nonintersection}
+use Rattle.constraints.specs.declared.Negation.TheVariants.{Unequal}
 use Rattle.constraints.specs.declared.Entries.{Entries}
 use Rattle.constraints.specs.declared.Entries.TheVariants.{Written, Interval}
 use Rattle.constraints.specs.declared.Constraint.{Constraint}
@@ -22,14 +22,9 @@ relation_of Union = relations.union
 relation_of Disjoint = relations.disjoint
 relation_of Subset = relations.subset
 relation_of Intersection = relations.intersection
-relation_of Difference = relations.difference
 
 abbrev pub negation_of : Negation → relations.Negation
 negation_of Unequal = relations.unequal
-negation_of Nonunion = relations.nonunion
-negation_of Overlap = relations.overlap
-negation_of Nonsubset = relations.nonsubset
-negation_of Nonintersection = relations.nonintersection
 
 abbrev pub list_of : Entries → SetVar → List Term → calculus.Constraint
 list_of Written A es = calculus.exactly A es

@@ -18,16 +18,11 @@ pub enum Relation {
     Disjoint,
     Subset,
     Intersection,
-    Difference,
 }
 
 #[derive(Drop)]
 pub enum Negation {
     Unequal,
-    Nonunion,
-    Overlap,
-    Nonsubset,
-    Nonintersection,
 }
 
 // Where the entries of a set are: written in the problem, or the numbers from a first to a last.
@@ -37,7 +32,7 @@ pub enum Entries {
     Interval(Term, Term),
 }
 
-// A constraint with its operands; one of two sets repeats its first operand. The entries of a list or an interval are handed on beside it (`entries_at`).
+// A constraint with its operands; one of two sets repeats its first operand. The entries of a list or an interval are handed on beside it (`list_at`).
 #[derive(Drop)]
 pub enum Constraint {
     Member(Term, SetVar),
@@ -78,36 +73,8 @@ pub fn decode_at(problem: &[u8], i: usize, at: usize, w: u8) -> Constraint
             SetVar(problem[at + 3]),
         ),
         11 => Constraint::Listed(Entries::Written, SetVar(p)),
-        12 => Constraint::Listed(Entries::Interval(Term(q), Term(problem[at + 3])), SetVar(p)),
-        13 => Constraint::Related(
-            Relation::Difference,
-            SetVar(p),
-            SetVar(q),
-            SetVar(problem[at + 3]),
-        ),
-        14 => Constraint::Negated(
-            Negation::Nonunion,
-            SetVar(p),
-            SetVar(q),
-            SetVar(problem[at + 3]),
-            Term(w),
-        ),
-        15 => Constraint::Negated(Negation::Overlap, SetVar(p), SetVar(q), SetVar(p), Term(w)),
-        16 => Constraint::Negated(
-            Negation::Nonsubset,
-            SetVar(p),
-            SetVar(q),
-            SetVar(p),
-            Term(w),
-        ),
-        // kind 17
-        _ => Constraint::Negated(
-            Negation::Nonintersection,
-            SetVar(p),
-            SetVar(q),
-            SetVar(problem[at + 3]),
-            Term(w),
-        ),
+        // kind 12
+        _ => Constraint::Listed(Entries::Interval(Term(q), Term(problem[at + 3])), SetVar(p)),
     }
 }
 

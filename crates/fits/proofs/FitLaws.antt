@@ -31,22 +31,23 @@ use Rattle.branch.specs.Held.{root_of}
 use Rattle.branch.specs.Rows.{literal_known, RowsOf, literal_count}
 use Rattle.branch.proofs.Roots.{root_is, root_range}
 use Rattle.places.specs.Places.{RuleOf, row_of, move_at, list_move, entries_of, roots, positions, first_at}
-use Rattle.places.proofs.Offered.{by_position, negation_rule}
+use Rattle.places.proofs.Offered.{by_position}
 use Rattle.constraints.specs.declared.Constraint.{Constraint as Coded}
 use Rattle.constraints.specs.declared.Constraint.TheVariants.{Member, Nonmember, Same as Equated, Different, Related, Negated, Listed}
 use Rattle.constraints.specs.declared.Relation.{Relation as CodedRelation}
 use Rattle.terms.specs.declared.SetVar.{SetVar as CodedSet}
 use Rattle.constraints.specs.declared.Negation.{Negation as CodedNegation}
 use Rattle.terms.specs.declared.Term.{Term as CodedTerm}
+use Rattle.constraints.specs.declared.Negation.TheVariants.{Unequal}
 use Rattle.constraints.specs.declared.Entries.TheVariants.{Written, Interval}
 use Rattle.constraints.specs.Decoded.{relation_of, negation_of, decoded, Handled}
 use Rattle.rules.specs.declared.Child.{Child}
 use Rattle.rules.specs.declared.Denial.{Denial}
 use Rattle.rules.specs.declared.Row.{Row as Code}
 use Rattle.rules.specs.declared.Split.{Split}
-use Rattle.rules.specs.Rows.{numbered, sets, forcing, splitting, negating, literal_number, laid, parted, denying}
+use Rattle.rules.specs.Rows.{numbered, sets, HasRow, splitting, literal_number, laid, parted, denying}
 use Rattle.fits.specs.Words.{forced_word, divided_word, denied_word, met_word, LowChild, LowDenial, missed, OfRoots, ByEntries, Lent, Asked, Fits, FitsFor}
-use Rattle.fits.proofs.TableTests.{row_of_relation, denial_row, denial_rule, denied_row, forced_test, divided_test, denied_test}
+use Rattle.fits.proofs.TableTests.{row_of_relation, denied_row, forced_test, divided_test, denied_test}
 use Rattle.fits.proofs.Lowest.{at_one, first_map, map_map, first_range, single, one_fits, roots_fits}
 use Rattle.fits.proofs.RowBits.{known_in, known_out, applies_at, laid_low, parted_low, denying_low, forced_bits, divided_bits, met_bits, met_small, but_bits, but_three}
 
@@ -266,26 +267,21 @@ module _ {es : List ℕ} {word j : ℕ} {l m : Coded} (e : l ≡ m) (q : Asked e
       (subst (λ (x : Coded). IsWord b.parents rows es j x w) (sym e) (subst (λ (qs : List ℕ). IsWord qs rows es j m w) (sym s.parents_are) i))
 
 -- what row_of, split_of and denial_of answer makes the right words
-module _ {l : Coded} {k : CodedRelation} {A B C : CodedSet} (e : l ≡ Related k A B C) (rows : List ℕ) (j w : ℕ) where
+module _ (rows : List ℕ) (j w : ℕ) (A B C : CodedSet) where
   abbrev Word : Type 0
   Word = (splitting j ≡ false → w ≡ forced_word rows (laid (sets A B C) (numbered j))) × (splitting j ≡ true → w ≡ divided_word rows (parted (sets A B C) (numbered j)))
 
-  pub forced_word_is : splitting j ≡ false → (x : Code) → x ≡ laid (sets A B C) (numbered j) → w ≡ forced_word rows x → Word
-  forced_word_is n x q f = (λ _. f ∙ ap (forced_word rows) q, λ z. clash z n)
+  pub forced_word_is : ¬ (j ≡ 12) → (x : Code) → x ≡ laid (sets A B C) (numbered j) → w ≡ forced_word rows x → Word
+  forced_word_is n x q f = (λ _. f ∙ ap (forced_word rows) q, λ z. absurd (n (eqb-true j 12 z)))
 
-  pub divided_word_is : splitting j ≡ true → (x : Split) → x ≡ parted (sets A B C) (numbered j) → w ≡ divided_word rows x → Word
-  divided_word_is n x q f = (λ z. clash n z, λ _. f ∙ ap (divided_word rows) q)
+  pub divided_word_is : j ≡ 12 → (x : Split) → x ≡ parted (sets A B C) (numbered 12) → w ≡ divided_word rows x → Word
+  divided_word_is n x q f = (λ z. clash (eq-eqb j 12 n) z, λ _. f ∙ ap (divided_word rows) (q ∙ ap (λ (i : ℕ). parted (sets A B C) (numbered i)) (sym n)))
 
--- the rule of a negation
-module _ {es : List ℕ} {word j : ℕ} {l : Coded} {k : CodedNegation} {A B C : CodedSet} {t : CodedTerm} (e : l ≡ Negated k A B C t) (q : Asked es word l j) where
-  number : j ≡ (negation_row (negation_of k)).rule
-  number = negation_rule (negation_of k) (set_var A.0) (set_var B.0) (set_var C.0) (term t.0) j (subst (λ (x : Coded). RuleOf (decoded (map term es) x) j) e q.of_rule)
-
-  pub denied_number : negating j ≡ true
-  denied_number = subst (λ (i : ℕ). negating i ≡ true) (sym number) (denial_rule (negation_of k))
-
-  pub denied_word_is : (rows : List ℕ) (w h : ℕ) (x : Denial) → x ≡ denying (sets A B C) (numbered j) → w ≡ denied_word rows x h → w ≡ denied_word rows (denying (sets A B C) (negation_row (negation_of k))) h
-  denied_word_is rows w h x p f = f ∙ ap (λ (x : Denial). denied_word rows x h) (p ∙ ap (denying (sets A B C)) (ap numbered number ∙ denial_row (negation_of k)))
+pub denied_word_is : {l : Coded} {k : CodedNegation} {A B C : CodedSet} {t : CodedTerm} → l ≡ Negated k A B C t → (rows : List ℕ) (w h : ℕ) (x : Denial) → x ≡ denying (sets A B C) (numbered 7) → w ≡ denied_word rows x h → w ≡ denied_word rows (denying (sets A B C) (negation_row (negation_of k))) h
+denied_word_is {l} {k} {A} {B} {C} e rows w h x q f = f ∙ ap (λ (x : Denial). denied_word rows x h) (q ∙ ap (denying (sets A B C)) (seven k))
+  where
+    seven : (k : CodedNegation) → numbered 7 ≡ negation_row (negation_of k)
+    seven Unequal = refl
 
 -- the entries are terms below n, and so below 64
 entries_within : (n : ℕ) (l : Constraint) → ConstraintIn n most_sets l → Each (λ (e : Term). e.index < n) (entries_of l)
@@ -304,7 +300,9 @@ entries_low n es l h c = each_term n es (subst (Each (λ (e : Term). e.index < n
 pub entries_below : (es : List ℕ) (l : Coded) → Handled es l → Each (λ e. e < most_terms) es
 entries_below es l h = entries_low 64 es l h h.in_range
 
--- the rule of a relation, if it is no split
-pub related_number : {es : List ℕ} {word j : ℕ} {l : Coded} {k : CodedRelation} {A B C : CodedSet} → l ≡ Related k A B C → Asked es word l j → splitting j ≡ false → forcing j ≡ true
+-- the number of a relation's rule
+pub related_number : {es : List ℕ} {word j : ℕ} {l : Coded} {k : CodedRelation} {A B C : CodedSet} → l ≡ Related k A B C → Asked es word l j → ¬ (j ≡ 12) → HasRow j A B
 related_number {es} {word} {j} {l} {k} {A} {B} {C} e q n =
-    (row_of_relation (relation_of k) (set_var A.0) (set_var B.0) (set_var C.0) j (subst (λ (x : Coded). RuleOf (decoded (map term es) x) j) e q.of_rule)).forces n
+    let x = row_of_relation (relation_of k) (set_var A.0) (set_var B.0) (set_var C.0) j (subst (λ (x : Coded). RuleOf (decoded (map term es) x) j) e q.of_rule) in
+    let r = in_range e q in
+    record { low = x.low; high = x.high; no_negation = x.no_seven; no_split = n; first_set = r.0; second_set = r.1 }

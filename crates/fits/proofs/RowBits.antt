@@ -17,7 +17,6 @@ use Rattle.calculus.specs.Relations as R
 use Rattle.calculus.specs.Branch.{Branch, root_at, inside, outside, In, Out}
 use Rattle.calculus.specs.Branch as calculus
 use Rattle.calculus.specs.Search.{fact_of, at}
-use Rattle.calculus.proofs.Tables.{operand_each}
 use Rattle.calculus.proofs.Masks.{bit_of_or, bit_of_and, bit_pow}
 use Rattle.calculus.specs.Relations.{operand_of}
 use Rattle.calculus.proofs.RuleLaws.{applies_map}
@@ -64,7 +63,9 @@ module _ (A B C : ℕ) (low : (A < most_sets) × (B < most_sets) × (C < most_se
   S = operand_of A B C
 
   operand_low : (p : Operand) → S p < most_sets
-  operand_low = operand_each (λ (k : ℕ). k < most_sets) low
+  operand_low R.A = low.0
+  operand_low R.B = low.1
+  operand_low R.C = low.2
 
   pub number_low : (l : Literal) → literal_number S l < literal_count
   number_low (R.In p) = omega (arith, operand_low p)

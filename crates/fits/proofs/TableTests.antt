@@ -8,14 +8,14 @@ use native.Mathlib.Omega.{arith}
 use lib.ListN.{length}
 use Rattle.calculus.specs.Lists.{imp, Each, up_from}
 use Rattle.calculus.specs.Terms.{SetVar}
-use Rattle.calculus.specs.Relations.{Rule, applies, Relation, equal, union, disjoint, subset, intersection, difference, Negation, unequal, nonunion, overlap, nonsubset, nonintersection, negation_row, Literal}
+use Rattle.calculus.specs.Relations.{Rule, applies, Relation, equal, union, disjoint, subset, intersection, Negation, unequal, negation_row, Literal}
 use Rattle.calculus.specs.Relations as R
 use Rattle.calculus.specs.Meaning.{relation}
-use Rattle.calculus.proofs.Bools.{clash, same_test, imp_at, and_l, and_r, or_l, or_r, every3, every3_at}
+use Rattle.calculus.proofs.Bools.{clash, same_test, imp_at, and_l, and_r, every3, every3_at}
 use Rattle.calculus.proofs.Sequences.{up_at}
 use Rattle.calculus.specs.Relations.{operand_of, lit_known, rows}
 use Rattle.places.specs.Places.{RuleOf, first_row, row_of}
-use Rattle.rules.specs.Rows.{numbered, forcing, splitting, negating, has_row, left_operand, right_operand, head, second, last, child_at, last_child}
+use Rattle.rules.specs.Rows.{numbered, splitting, left_operand, right_operand, head, second, last, child_at, last_child}
 
 -- ---- what the code tests
 
@@ -80,24 +80,24 @@ agrees_at t r e f = ap (λ (g : Literal → Bool). applies g r) (sym (by_known f
 -- a relation's rule is its number's row, and the code's test of it is right: one for propagation rules, another for splits
 pub record Row (k : Relation) (j : ℕ) : Type 0 where
   pub is : row_of k j ≡ numbered j
-  pub row : has_row j ≡ true
-  pub forces : splitting j ≡ false → forcing j ≡ true
+  pub low : 5 ≤ j
+  pub high : j ≤ 18
+  pub no_seven : ¬ (j ≡ 7)
   pub forced : splitting j ≡ false → (f : Literal → Bool) → applies f (numbered j) ≡ forced_test f (numbered j)
   pub divided : splitting j ≡ true → (f : Literal → Bool) → applies f (numbered j) ≡ divided_test f (numbered j)
 
-forced_row : (k : Relation) (j : ℕ) → row_of k j ≡ numbered j → forcing j ≡ true → splitting j ≡ false → agrees forced_test (numbered j) ≡ true → Row k j
-forced_row k j e r m t = record { is = e; row = or_r (splitting j) (or_r (negating j) r); forces = λ _. r; forced = λ _. agrees_at forced_test (numbered j) t; divided = λ z. clash z m }
+forced_row : (k : Relation) (j : ℕ) → row_of k j ≡ numbered j → 5 ≤ j → j ≤ 18 → ¬ (j ≡ 7) → splitting j ≡ false → agrees forced_test (numbered j) ≡ true → Row k j
+forced_row k j e l h n m t = record { is = e; low = l; high = h; no_seven = n; forced = λ _. agrees_at forced_test (numbered j) t; divided = λ z. clash z m }
 
-divided_row : (k : Relation) (j : ℕ) → row_of k j ≡ numbered j → splitting j ≡ true → agrees divided_test (numbered j) ≡ true → Row k j
-divided_row k j e m t = record { is = e; row = or_l (negating j || forcing j) m; forces = λ z. clash m z; forced = λ z. clash m z; divided = λ _. agrees_at divided_test (numbered j) t }
+divided_row : (k : Relation) (j : ℕ) → row_of k j ≡ numbered j → 5 ≤ j → j ≤ 18 → ¬ (j ≡ 7) → splitting j ≡ true → agrees divided_test (numbered j) ≡ true → Row k j
+divided_row k j e l h n m t = record { is = e; low = l; high = h; no_seven = n; forced = λ z. clash m z; divided = λ _. agrees_at divided_test (numbered j) t }
 
 table : (k : Relation) → Each (Row k) (up_from (first_row k) (length (rows k)))
-table equal = (forced_row equal 5 refl refl refl refl, (forced_row equal 6 refl refl refl refl, tt))
-table union = (forced_row union 8 refl refl refl refl, (forced_row union 9 refl refl refl refl, (forced_row union 10 refl refl refl refl, (forced_row union 11 refl refl refl refl, (divided_row union 12 refl refl refl, tt)))))
-table disjoint = (forced_row disjoint 13 refl refl refl refl, (forced_row disjoint 14 refl refl refl refl, tt))
-table subset = (forced_row subset 15 refl refl refl refl, tt)
-table intersection = (forced_row intersection 16 refl refl refl refl, (forced_row intersection 17 refl refl refl refl, (forced_row intersection 18 refl refl refl refl, tt)))
-table difference = (forced_row difference 21 refl refl refl refl, (forced_row difference 22 refl refl refl refl, (forced_row difference 23 refl refl refl refl, (forced_row difference 24 refl refl refl refl, (divided_row difference 25 refl refl refl, tt)))))
+table equal = (forced_row equal 5 refl (omega arith) (omega arith) (omega arith) refl refl, (forced_row equal 6 refl (omega arith) (omega arith) (omega arith) refl refl, tt))
+table union = (forced_row union 8 refl (omega arith) (omega arith) (omega arith) refl refl, (forced_row union 9 refl (omega arith) (omega arith) (omega arith) refl refl, (forced_row union 10 refl (omega arith) (omega arith) (omega arith) refl refl, (forced_row union 11 refl (omega arith) (omega arith) (omega arith) refl refl, (divided_row union 12 refl (omega arith) (omega arith) (omega arith) refl refl, tt)))))
+table disjoint = (forced_row disjoint 13 refl (omega arith) (omega arith) (omega arith) refl refl, (forced_row disjoint 14 refl (omega arith) (omega arith) (omega arith) refl refl, tt))
+table subset = (forced_row subset 15 refl (omega arith) (omega arith) (omega arith) refl refl, tt)
+table intersection = (forced_row intersection 16 refl (omega arith) (omega arith) (omega arith) refl refl, (forced_row intersection 17 refl (omega arith) (omega arith) (omega arith) refl refl, (forced_row intersection 18 refl (omega arith) (omega arith) (omega arith) refl refl, tt)))
 
 -- a rule of a relation is one of its rows
 in_rows : (k : Relation) (A B C : SetVar) (j : ℕ) → RuleOf (relation k A B C) j → (first_row k ≤ j) × (j < first_row k + length (rows k))
@@ -111,33 +111,10 @@ in_rows subset A B C j (inl s) = s
 in_rows subset A B C j (inr s) = absurd (omega (arith, s.1))
 in_rows intersection A B C j (inl s) = s
 in_rows intersection A B C j (inr s) = absurd (omega (arith, s.1))
-in_rows difference A B C j (inl s) = (s.0, omega (arith, s.1))
-in_rows difference A B C j (inr s) = (omega (arith, s.0), s.1)
 
 pub row_of_relation : (k : Relation) (A B C : SetVar) (j : ℕ) → RuleOf (relation k A B C) j → Row k j
 row_of_relation k A B C j r = let s = in_rows k A B C j r in up_at (Row k) (first_row k) (length (rows k)) (table k) j s.0 s.1
 
--- a negation's row is its number's, and the code's test of it is right
-pub denial_row : (k : Negation) → numbered (negation_row k).rule ≡ negation_row k
-denial_row unequal = refl
-denial_row nonunion = refl
-denial_row overlap = refl
-denial_row nonsubset = refl
-denial_row nonintersection = refl
-
-pub denial_rule : (k : Negation) → negating (negation_row k).rule ≡ true
-denial_rule unequal = refl
-denial_rule nonunion = refl
-denial_rule overlap = refl
-denial_rule nonsubset = refl
-denial_rule nonintersection = refl
-
-denied_test : (k : Negation) → agrees denied_test (negation_row k) ≡ true
-denied_test unequal = refl
-denied_test nonunion = refl
-denied_test overlap = refl
-denied_test nonsubset = refl
-denied_test nonintersection = refl
-
+-- a negation's row
 pub denied_row : (k : Negation) (f : Literal → Bool) → applies f (negation_row k) ≡ denied_test f (negation_row k)
-denied_row k = agrees_at denied_test (negation_row k) (denied_test k)
+denied_row unequal = agrees_at denied_test (negation_row unequal) refl

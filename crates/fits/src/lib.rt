@@ -11,7 +11,7 @@ ghost use Rattle.fits.specs.Words.{unshared_of, rests_by, Parents, Lent, Long, L
 use bits::{bit_at, has_bit};
 use branch::root_at;
 use constraints::Constraint;
-use rules::{Child, Denial, Literal, Row, Split, denial_of, row_of, split_of, splits};
+use rules::{Child, Denial, Literal, Row, Split, denial_of, row_of, split_of};
 use terms::{OUT, SetVar, Term};
 
 // The roots of which a literal is known, as bits.
@@ -156,12 +156,12 @@ pub fn fitting(parents: &[u8], rows: &[u64], list: &[u8], word: u64, l: Constrai
         Constraint::Same(t, u) => bit_at(root(parents, t).0) & !bit_at(root(parents, u).0),
         Constraint::Different(t, u) => together(parents, t, u),
         Constraint::Related(_, a, b, c) => {
-            if splits(rule) {
-                return divided(rows, split_of(rule, a, b, c));
+            if rule == 12 {
+                return divided(rows, split_of(a, b, c));
             }
             forced(rows, row_of(rule, a, b, c))
         }
-        Constraint::Negated(_, a, b, c, w) => denied(parents, rows, denial_of(rule, a, b, c), w),
+        Constraint::Negated(_, a, b, c, w) => denied(parents, rows, denial_of(a, b, c), w),
         Constraint::Listed(_, a) => by_entries(parents, rows, list, word, a, rule),
     }
 }

@@ -2,7 +2,7 @@
 use mathlib.Core.Path.{◌≡◌, refl, sym, ap, ◌∙◌, subst}
 use mathlib.Core.Logic.{◌⊎◌, inl, inr}
 use mathlib.Core.Bool.{Bool, true, false, ◌&&◌, not, false≢true, or-false}
-use mathlib.Core.List.{List, [], ◌∷◌}
+use mathlib.Core.List.{List, [], ◌∷◌, ◌++◌}
 use Prim.Native.Nat.{ℕ, zero, suc, ◌+◌, ◌-◌, ◌^◌, ◌<◌, ◌≤◌}
 use native.Mathlib.Omega.{arith}
 use native.Mathlib.Decide.{ℕ_discrete}
@@ -14,13 +14,13 @@ use types.Run.{OneOf, miss}
 use denote.Enum.Declared.{tag_of}
 use borrow.Author.Tests.{eq-eqb, eqb-true, eqb-false, ltb-true}
 use Rattle.calculus.specs.Limits.{most_sets, most_terms}
-use Rattle.calculus.specs.Lists.{imp, all, any, bit, up_from}
+use Rattle.calculus.specs.Lists.{imp, all, any, bit}
 use Rattle.calculus.specs.Terms.{Term, SetVar, set_var}
-use Rattle.calculus.specs.Relations.{Rule, Relation, equal, union, disjoint, subset, intersection, difference, Literal, Operand, operand_of}
+use Rattle.calculus.specs.Relations.{Rule, Relation, equal, union, disjoint, subset, intersection, unequal, Literal, Operand, operand_of, propagation, rows, negation_row}
+use Rattle.calculus.specs.Relations as R
 use Rattle.calculus.specs.Meaning.{Constraint, relation}
 use Rattle.calculus.specs.Invariants.{ConstraintIn}
-use Rattle.calculus.proofs.Bools.{clash, and_l, and_r, or_cases, or_l, or_r, imp_at, not_t, each_all}
-use Rattle.calculus.proofs.Sequences.{up_at}
+use Rattle.calculus.proofs.Bools.{clash, and_l, and_r, or_cases, or_l, or_r, imp_at, not_t}
 use Rattle.bits.proofs.Bits.{bit_of_or, bit_pow}
 use Rattle.problem.specs.Table.{Stands, constraint_of, kind_of}
 use Rattle.places.specs.Places.{span_of, propagation_span, split_span, InSpan, RuleOf, row_of, entries_of}
@@ -38,12 +38,10 @@ use Rattle.constraints.proofs.Decoding.{kind_here, in_range, list_set}
 use Rattle.rules.specs.declared.Row.{Row}
 use Rattle.rules.specs.declared.Split.{Split}
 use Rattle.rules.specs.Spans.{Spanned}
-use Rattle.rules.specs.Rows.{no_row, tables, numbered, forcing, splitting, LowSets, literal_number, head, last, laid, parted}
-use Rattle.rules.proofs.Laying.{among_each}
+use Rattle.rules.specs.Rows.{HasRow, numbered, literal_number, head, last, laid, parted}
 use Rattle.fits.proofs.TableTests.{row_of_relation}
 use Rattle.fits.specs.Words.{LowRow, LowSplit}
 use Rattle.fits.proofs.RowBits.{laid_low, parted_low}
-use Rattle.branch.specs.Rows.{literal_count}
 use Rattle.quiet.specs.Quiet.{needs, pairs, pair_mark, split_mark, mark_count, rest_mark}
 use Rattle.marks.specs.Marks.{RuleNeeds, NeedsOf}
 
@@ -64,10 +62,10 @@ pow_small k h = pow-lt {j = rest_mark} h
 -- ---- rows
 
 -- what holds of each row of the tables holds of every rule's
-each_row : (p : Rule Literal → Bool) → all p tables ≡ true → p no_row ≡ true → (j : ℕ) → p (numbered j) ≡ true
-each_row p a e j = go tables a (j - 5)
+each_row : (p : Rule Literal → Bool) → all p (rows equal ++ negation_row unequal ∷ rows union ++ rows disjoint ++ rows subset ++ rows intersection) ≡ true → p (propagation 0 [] (R.In R.A)) ≡ true → (j : ℕ) → p (numbered j) ≡ true
+each_row p a e j = go (rows equal ++ negation_row unequal ∷ rows union ++ rows disjoint ++ rows subset ++ rows intersection) a (j - 5)
   where
-    go : (rs : List (Rule Literal)) → all p rs ≡ true → (i : ℕ) → p (get_or rs i no_row) ≡ true
+    go : (rs : List (Rule Literal)) → all p rs ≡ true → (i : ℕ) → p (get_or rs i (propagation 0 [] (R.In R.A))) ≡ true
     go [] a i = e
     go (r ∷ rs) a zero = and_l (p r) (all p rs) a
     go (r ∷ rs) a (suc i) = go rs (and_r (p r) (all p rs) a) i
@@ -116,9 +114,12 @@ module _ (k : Relation) (A B C j w : ℕ) where
 abbrev pub Premised : (A B C j w : ℕ) → Type 0
 Premised A B C j w = (w < 2 ^ rest_mark) × ((k : Relation) → RuleOf (relation k (set_var A) (set_var B) (set_var C)) j → RuleNeeds (relation k (set_var A) (set_var B) (set_var C)) j w)
 
--- a row laid out has literals
+-- a row laid out has literals, and so has a split
 pub row_low : {A B C : ℕ} (j : ℕ) → (A < most_sets) × (B < most_sets) × (C < most_sets) → {x : Row} → x ≡ laid (operand_of A B C) (numbered j) → LowRow x
 row_low {A} {B} {C} j low p = subst LowRow (sym p) (laid_low A B C low (numbered j))
+
+pub split_low : {A B C : ℕ} → (A < most_sets) × (B < most_sets) × (C < most_sets) → {x : Split} → x ≡ parted (operand_of A B C) (numbered 12) → LowSplit x
+split_low {A} {B} {C} low p = subst LowSplit (sym p) (parted_low A B C low (numbered 12))
 
 -- x is the rule laid out for its sets, and y for three that differ
 module _ {A B C : ℕ} (j : ℕ) (low : (A < most_sets) × (B < most_sets) × (C < most_sets)) {x y : Row} (p : x ≡ laid (operand_of A B C) (numbered j)) (q : y ≡ laid (operand_of 0 1 2) (numbered j)) {u v : ℕ} (m : u ≡ 2 ^ x.0.0) (n : v ≡ 2 ^ x.1.0) where
@@ -141,27 +142,13 @@ module _ {A B C : ℕ} (j : ℕ) (low : (A < most_sets) × (B < most_sets) × (C
   pub two_premises : {t : ℕ} → t ≡ 2 ^ pair_mark → Premised A B C j (bit_or both t)
   two_premises {t} e = (or_lt rest_mark both t both_small (rw e (omega arith)), by_premises (bit_or both t) (bit_left both t) (λ _. bit_right both t pair_mark (rw e (bit_own pair_mark))))
 
--- a relation's propagation rules are no splits, and it has at most one split
-abbrev Sorted : ℕ × ℕ → ℕ × ℕ → Type 0
-Sorted s u = (all (λ j. not (splitting j)) (up_from s.0 (s.1 - s.0)) ≡ true) × (all splitting (up_from u.0 (u.1 - u.0)) ≡ true) × (u.1 ≤ suc u.0)
-
-sorted : (k : Relation) (A B C : SetVar) → Sorted (propagation_span (relation k A B C)) (split_span (relation k A B C))
-sorted equal A B C = (refl, refl, omega arith)
-sorted union A B C = (refl, refl, omega arith)
-sorted disjoint A B C = (refl, refl, omega arith)
-sorted subset A B C = (refl, refl, omega arith)
-sorted intersection A B C = (refl, refl, omega arith)
-sorted difference A B C = (refl, refl, omega arith)
-
-in_span : (t : ℕ → Bool) (s : ℕ × ℕ) → all t (up_from s.0 (s.1 - s.0)) ≡ true → (j : ℕ) → InSpan s j → t j ≡ true
-in_span t s a j r = up_at (λ i. t i ≡ true) s.0 (s.1 - s.0) (each_all t (up_from s.0 (s.1 - s.0)) a) j r.0 (omega (arith, r.0, r.1))
-
--- a split needs one literal
-abbrev OneNeeded : ℕ → Type 0
-OneNeeded j = (numbered j).premises ≡ head (numbered j).premises ∷ []
-
-one_needed : (j : ℕ) → splitting j ≡ true → OneNeeded j
-one_needed = among_each OneNeeded (25 ∷ 12 ∷ []) (refl, (refl, tt))
+-- rule 12 is the split, and no propagation rule
+rule_12 : (k : Relation) (A B C : SetVar) (j : ℕ) → (InSpan (propagation_span (relation k A B C)) j → ¬ (j ≡ 12)) × (InSpan (split_span (relation k A B C)) j → j ≡ 12)
+rule_12 equal A B C j = (λ s e. omega (arith, s.0, s.1), λ s. omega (arith, s.0, s.1))
+rule_12 union A B C j = (λ s e. omega (arith, s.0, s.1), λ s. omega (arith, s.0, s.1))
+rule_12 disjoint A B C j = (λ s e. omega (arith, s.0, s.1), λ s. omega (arith, s.0, s.1))
+rule_12 subset A B C j = (λ s e. omega (arith, s.0, s.1), λ s. omega (arith, s.0, s.1))
+rule_12 intersection A B C j = (λ s e. omega (arith, s.0, s.1), λ s. omega (arith, s.0, s.1))
 
 -- ---- rules of a constraint
 
@@ -224,11 +211,11 @@ module _ {bs : List ℕ} {i at : ℕ} (l : Coded) (d : Stands bs i at × (constr
     spans split h = h related (sym (kind_here bs i at d.0 ∙ ap kind_of (matched e)))
 
     -- what `premises` is asked for
-    pub premises_asked : {first end j word : ℕ} → Spanned false (get_or bs at 0) first end → Before own j word → j < end → (forcing j ≡ true) × LowSets A B C
+    pub premises_asked : {first end j word : ℕ} → Spanned false (get_or bs at 0) first end → Before own j word → j < end → HasRow j A B × (C.0 < most_sets)
     premises_asked {first} {end} {j} h f b =
         let v : InSpan (propagation_span related) j = (rw (matched e) at f.begun, omega (arith, (spans false h).1)) in
-        let n = not_t (splitting j) (in_span (λ i. not (splitting i)) (propagation_span related) (sorted (relation_of k) (set_var A.0) (set_var B.0) (set_var C.0)).0 j v) in
-        ((row_of_relation (relation_of k) (set_var A.0) (set_var B.0) (set_var C.0) j (inl v)).forces n, range e)
+        let t = row_of_relation (relation_of k) (set_var A.0) (set_var B.0) (set_var C.0) j (inl v) in
+        (record { low = t.low; high = t.high; no_negation = t.no_seven; no_split = (rule_12 (relation_of k) (set_var A.0) (set_var B.0) (set_var C.0) j).0 v; first_set = (range e).0; second_set = (range e).1 }, (range e).2)
 
     pub needs_start : {first end : ℕ} → Spanned false (get_or bs at 0) first end → Before own first 0
     needs_start h = let q = spans false h in rw (matched e) (record { begun = omega (arith, q.0); rules = λ m v g. absurd (omega (arith, q.0, v.0)); small = omega arith })
@@ -258,43 +245,23 @@ module _ {bs : List ℕ} {i at : ℕ} (l : Coded) (d : Stands bs i at × (constr
       pub no_split : to ≤ from → NeedsOf own word
       no_split n = let q = spans true g in needs_with word (omega (arith, f.small)) (λ x y. y) (λ m v. absurd (omega (arith, q.0, q.1, v.0, v.1)))
 
-      module _ (some : from < to) where
-        of_split : InSpan (split_span related) from
-        of_split = let q = spans true g in (omega (arith, q.0), omega (arith, q.1))
+      pub with_split : {x : Split} → x ≡ parted (operand_of A.0 B.0 C.0) (numbered 12) → {v w : ℕ} → v ≡ 2 ^ x.0.0 → w ≡ 2 ^ split_mark → NeedsOf own (bit_or (bit_or word v) w)
+      with_split {x} p {v} {w} q o = needs_with all (or_lt mark_count (bit_or word v) w (or_lt mark_count word v (omega (arith, f.small)) (rw c (omega (arith, pow_small C.0 (omega (arith, (range e).2)))))) (rw o (omega arith))) (λ y z. bit_left (bit_or word v) w y (bit_left word v y z)) (λ m s. (there m s, bit_right (bit_or word v) w 18 (rw o (bit_own split_mark))))
+        where
+          all : ℕ
+          all = bit_or (bit_or word v) w
 
-        -- what `split_of` is asked for
-        pub split_asked : splitting from ≡ true
-        split_asked = in_span splitting (split_span related) (sorted (relation_of k) (set_var A.0) (set_var B.0) (set_var C.0)).1 from of_split
+          c : v ≡ 2 ^ C.0
+          c = q ∙ ap (λ (y : Split). 2 ^ y.0.0) p
 
-        -- the literal that it needs has a bit
-        pub split_low : {x : Split} → x ≡ parted (operand_of A.0 B.0 C.0) (numbered from) → x.0.0 < literal_count
-        split_low p = (subst LowSplit (sym p) (parted_low A.0 B.0 C.0 (range e) (numbered from))).0
+          set : bit all C.0 ≡ true
+          set = bit_left (bit_or word v) w C.0 (bit_right word v C.0 (rw c (bit_own C.0)))
 
-        pub with_split : {x : Split} → x ≡ parted (operand_of A.0 B.0 C.0) (numbered from) → {v w : ℕ} → v ≡ 2 ^ x.0.0 → w ≡ 2 ^ split_mark → NeedsOf own (bit_or (bit_or word v) w)
-        with_split {x} p {v} {w} q o = needs_with all (or_lt mark_count (bit_or word v) w (or_lt mark_count word v (omega (arith, f.small)) (rw q (omega (arith, pow_small x.0.0 (omega (arith, split_low p)))))) (rw o (omega arith))) (λ y z. bit_left (bit_or word v) w y (bit_left word v y z)) (λ m s. (there m s, bit_right (bit_or word v) w split_mark (rw o (bit_own split_mark))))
-          where
-            all : ℕ
-            all = bit_or (bit_or word v) w
-
-            s : Operand → ℕ
-            s = operand_of A.0 B.0 C.0
-
-            premises : List Literal
-            premises = (numbered from).premises
-
-            set : bit all (literal_number s (head premises)) ≡ true
-            set = subst (λ (y : Split). bit all y.0.0 ≡ true) p (bit_left (bit_or word v) w x.0.0 (bit_right word v x.0.0 (rw q (bit_own x.0.0))))
-
-            alone : premises ≡ head premises ∷ []
-            alone = one_needed from split_asked
-
-            its : RuleNeeds related from all
-            its = by_row (relation_of k) A.0 B.0 C.0 from all (row_of_relation (relation_of k) (set_var A.0) (set_var B.0) (set_var C.0) from (inr of_split)).is set
-                (subst (λ (l : Literal). bit all (literal_number s l) ≡ true) (sym (ap last alone)) set)
-                (λ y. absurd (false≢true (sym (ap (λ (ls : List Literal). ltb 1 (length ls)) alone) ∙ y)))
-
-            there : (m : ℕ) → InSpan (split_span related) m → RuleNeeds related m all
-            there m r = let z : from ≡ m = omega (arith, r.0, r.1, (spans true g).0, (sorted (relation_of k) (set_var A.0) (set_var B.0) (set_var C.0)).2) in subst (λ (n : ℕ). RuleNeeds related n all) z its
+          there : (m : ℕ) → InSpan (split_span related) m → RuleNeeds related m all
+          there m s =
+              let z : m ≡ 12 = (rule_12 (relation_of k) (set_var A.0) (set_var B.0) (set_var C.0) m).1 s in
+              let r : row_of (relation_of k) 12 ≡ numbered 12 = rw z at (row_of_relation (relation_of k) (set_var A.0) (set_var B.0) (set_var C.0) m (inr s)).is in
+              rw z (by_row (relation_of k) A.0 B.0 C.0 12 all r set set (λ y. absurd (false≢true y)))
 
   -- any other constraint has no split, and no rule that needs a literal
   pub others_need : OneOf (0 ∷ 1 ∷ 2 ∷ []) (tag_of the_type l) → NeedsOf own 0

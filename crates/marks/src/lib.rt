@@ -1,6 +1,6 @@
 // What a run looks up: of each constraint its entries, and of each mark the constraints that have it, as bits.
-ghost use Rattle.std.specs.Prelude.{◌≡◌, true, ◌&&◌, ℕ, ◌+◌, ◌^◌, ◌<◌, length, get_or};
-ghost use Rattle.calculus.specs.Limits.{most_constraints, most_terms};
+ghost use Rattle.std.specs.Prelude.{◌≡◌, ◌&&◌, ℕ, ◌+◌, ◌^◌, ◌<◌, length, get_or};
+ghost use Rattle.calculus.specs.Limits.{most_sets, most_constraints, most_terms};
 ghost use Rattle.calculus.specs.Lists.{up_from, any, bit};
 ghost use Rattle.calculus.specs.Terms.{set_var};
 ghost use Rattle.calculus.specs.Relations.{Relation};
@@ -10,7 +10,7 @@ ghost use Rattle.problem.specs.Table.{Tabled, Stands, constraints_of, constraint
 ghost use Rattle.branch.specs.Rows.{literals, literal_count};
 ghost use Rattle.constraints.specs.Decoded.{decoded};
 ghost use Rattle.places.specs.Places.{RuleOf, entries_of};
-ghost use Rattle.rules.specs.Rows.{forcing, LowSets};
+ghost use Rattle.rules.specs.Rows.{HasRow};
 ghost use Rattle.quiet.specs.Quiet.{WordsOf, mark_count, mark_word, word_count, rest_mark};
 ghost use Rattle.marks.specs.Marks.{RuleNeeds, NeedsOf, Marked};
 
@@ -40,7 +40,7 @@ pub const WORDS: usize = PAIR_WORD + 3;
 
 // The literals, as bits, that a propagation rule of sets a, b and c needs. PAIR says that it needs two.
 fn premises(rule: u8, a: SetVar, b: SetVar, c: SetVar) -> u64
-    requires { (forcing rule ≡ true) × LowSets a b c }
+    requires { HasRow rule a b × (c.0 < most_sets) }
     ensures { (result < 2 ^ rest_mark) × ((k : Relation) → RuleOf (relation k (set_var a.0) (set_var b.0) (set_var c.0)) rule → RuleNeeds (relation k (set_var a.0) (set_var b.0) (set_var c.0)) rule result) }
 {
     let r = row_of(rule, a, b, c);
@@ -70,7 +70,7 @@ fn needed(problem: &[u8], i: usize, at: usize, l: Constraint) -> u64
             }
             let rest = span_of(kind, true);
             if rest.first < rest.end {
-                return found | bit_at(split_of(rest.first, a, b, c).0.0) | bit_at(SPLIT);
+                return found | bit_at(split_of(a, b, c).0.0) | bit_at(SPLIT);
             }
             found
         }

@@ -1,4 +1,3 @@
-pub mod Spans
 pub mod Offered
 pub mod Picking
 pub mod Slots

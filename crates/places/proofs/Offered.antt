@@ -11,7 +11,7 @@ use lib.Dec.{eqb}
 use borrow.Author.Tests.{eqb-true, eq-eqb, ne_eqb}
 use Rattle.calculus.specs.Lists.{up_from, keep, first, gather, Each}
 use Rattle.calculus.specs.Terms.{Term, SetVar, term}
-use Rattle.calculus.specs.Relations.{Rule, Literal, Relation, equal, union, disjoint, subset, intersection, difference, Negation, unequal, nonunion, overlap, nonsubset, nonintersection, Operand, applies, propagation, propagation_rows, split_rows, negation_row, operand_of}
+use Rattle.calculus.specs.Relations.{Rule, Literal, Relation, equal, union, disjoint, subset, intersection, Operand, applies, propagation, propagation_rows, split_rows, negation_row, operand_of}
 use Rattle.calculus.specs.Meaning.{Constraint, member, nonmember, same, different, relation, negation, exactly, interval}
 use Rattle.calculus.specs.Branch.{Branch, walk, root_at, root, In, Out, Same, known}
 use Rattle.calculus.specs.Invariants.{Falls, ConstraintIn}
@@ -20,7 +20,6 @@ use Rattle.calculus.proofs.Bools.{each_imp, first_some}
 use Rattle.calculus.proofs.Walk.{walk_le, walk_root, root_walk}
 use Rattle.calculus.proofs.Sequences.{up_each, keep_each}
 use Rattle.places.specs.Places.{span_of, InSpan, RuleOf, row_of, list_move, move_at, entries_of, roots, positions, first_at, offers}
-use Rattle.places.proofs.Spans.{misses, span_misses, no_split}
 
 -- a propagation rule or a split is a rule of the constraint
 pub rule_of : (split : Bool) (l : Constraint) (j : ℕ) → InSpan (span_of split l) j → RuleOf l j
@@ -75,7 +74,6 @@ propagations_offered n b (relation union A B C) = rows_offered n b (operand_of A
 propagations_offered n b (relation disjoint A B C) = rows_offered n b (operand_of A B C) (propagation_rows disjoint)
 propagations_offered n b (relation subset A B C) = rows_offered n b (operand_of A B C) (propagation_rows subset)
 propagations_offered n b (relation intersection A B C) = rows_offered n b (operand_of A B C) (propagation_rows intersection)
-propagations_offered n b (relation difference A B C) = rows_offered n b (operand_of A B C) (propagation_rows difference)
 propagations_offered n b (negation k A B C w) = refl
 propagations_offered n b (exactly A es) = listing_offered n b A es
 propagations_offered n b (interval A x y es) = listing_offered n b A es
@@ -90,12 +88,7 @@ splits_offered n b (relation union A B C) = rows_offered n b (operand_of A B C) 
 splits_offered n b (relation disjoint A B C) = refl
 splits_offered n b (relation subset A B C) = refl
 splits_offered n b (relation intersection A B C) = refl
-splits_offered n b (relation difference A B C) = rows_offered n b (operand_of A B C) (split_rows difference)
-splits_offered n b (negation unequal A B C w) = refl
-splits_offered n b (negation nonunion A B C w) = refl
-splits_offered n b (negation overlap A B C w) = refl
-splits_offered n b (negation nonsubset A B C w) = refl
-splits_offered n b (negation nonintersection A B C w) = refl
+splits_offered n b (negation k A B C w) = refl
 splits_offered n b (exactly A es) = choosing_offered n b A es
 splits_offered n b (interval A x y es) = choosing_offered n b A es
 
@@ -108,26 +101,16 @@ offered true n b l = splits_offered n b l
 -- ---- positions
 
 -- a rule of a constraint without entries is not rule 19
-not_19 : (s u : ℕ × ℕ) → misses 19 s ≡ true → misses 19 u ≡ true → (j : ℕ) → InSpan s j ⊎ InSpan u j → j ≢ 19
-not_19 s u m n j (inl r) = span_misses 19 s m j r
-not_19 s u m n j (inr r) = span_misses 19 u n j r
+below_19 : (s u : ℕ × ℕ) (j : ℕ) → s.1 ≤ 19 → u.1 ≤ 19 → InSpan s j ⊎ InSpan u j → j ≢ 19
+below_19 s u j k l (inl r) e = omega (arith, r.1)
+below_19 s u j k l (inr r) e = omega (arith, r.1)
 
 pub relation_19 : (k : Relation) (A B C : SetVar) (j : ℕ) → RuleOf (relation k A B C) j → j ≢ 19
-relation_19 equal A B C = not_19 (5, 7) (0, 0) refl refl
-relation_19 union A B C = not_19 (8, 12) (12, 13) refl refl
-relation_19 disjoint A B C = not_19 (13, 15) (0, 0) refl refl
-relation_19 subset A B C = not_19 (15, 16) (0, 0) refl refl
-relation_19 intersection A B C = not_19 (16, 19) (0, 0) refl refl
-relation_19 difference A B C = not_19 (21, 25) (25, 26) refl refl
-
--- the one rule of a negation
-pub negation_rule : (k : Negation) (A B C : SetVar) (w : Term) (j : ℕ) → RuleOf (negation k A B C w) j → j ≡ (negation_row k).rule
-negation_rule k A B C w j (inl s) = absurd (omega (arith, s.1))
-negation_rule k A B C w j (inr s) = omega (arith, s.0, s.1)
-
-pub negation_19 : (k : Negation) (A B C : SetVar) (w : Term) (j : ℕ) → RuleOf (negation k A B C w) j → j ≢ 19
-negation_19 k A B C w j (inl r) = absurd (omega (arith, r.1))
-negation_19 k A B C w j (inr r) = no_split 19 refl (negation k A B C w) j r
+relation_19 equal A B C j = below_19 (5, 7) (0, 0) j (omega arith) (omega arith)
+relation_19 union A B C j = below_19 (8, 12) (12, 13) j (omega arith) (omega arith)
+relation_19 disjoint A B C j = below_19 (13, 15) (0, 0) j (omega arith) (omega arith)
+relation_19 subset A B C j = below_19 (15, 16) (0, 0) j (omega arith) (omega arith)
+relation_19 intersection A B C j = below_19 (16, 19) (0, 0) j (omega arith) (omega arith)
 
 module _ (n : ℕ) (b : Branch) where
   -- rule 19 goes by the entries
@@ -135,12 +118,12 @@ module _ (n : ℕ) (b : Branch) where
   by_entries es j e = rw (eq-eqb j 19 e) (up_each (λ p. p < length es) 0 (length es) (λ p l h. omega arith))
 
   entry_positions : (l : Constraint) (j : ℕ) → RuleOf l j → j ≡ 19 → Each (λ p. p < length (entries_of l)) (positions n b l j)
-  entry_positions (member t A) j r e = absurd (not_19 (1, 2) (0, 0) refl refl j r e)
-  entry_positions (nonmember t A) j r e = absurd (not_19 (2, 3) (0, 0) refl refl j r e)
-  entry_positions (same t u) j r e = absurd (not_19 (3, 4) (0, 0) refl refl j r e)
-  entry_positions (different t u) j r e = absurd (not_19 (4, 5) (0, 0) refl refl j r e)
+  entry_positions (member t A) j r e = absurd (below_19 (1, 2) (0, 0) j (omega arith) (omega arith) r e)
+  entry_positions (nonmember t A) j r e = absurd (below_19 (2, 3) (0, 0) j (omega arith) (omega arith) r e)
+  entry_positions (same t u) j r e = absurd (below_19 (3, 4) (0, 0) j (omega arith) (omega arith) r e)
+  entry_positions (different t u) j r e = absurd (below_19 (4, 5) (0, 0) j (omega arith) (omega arith) r e)
   entry_positions (relation k A B C) j r e = absurd (relation_19 k A B C j r e)
-  entry_positions (negation k A B C w) j r e = absurd (negation_19 k A B C w j r e)
+  entry_positions (negation k A B C w) j r e = absurd (below_19 (0, 0) (7, 8) j (omega arith) (omega arith) r e)
   entry_positions (exactly A es) j r e = by_entries es j e
   entry_positions (interval A x y es) j r e = by_entries es j e
 

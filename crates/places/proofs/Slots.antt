@@ -10,7 +10,7 @@ use lib.ListN.{length}
 use borrow.Author.Tests.{eq-eqb, ne_eqb}
 use Rattle.calculus.specs.Lists.{up_from, picked, Each, Some}
 use Rattle.calculus.specs.Terms.{Term, SetVar, term}
-use Rattle.calculus.specs.Relations.{Rule, Literal, Operand, Relation, equal, union, disjoint, subset, intersection, difference, Negation, unequal, nonunion, overlap, nonsubset, nonintersection, negation_row, operand_of}
+use Rattle.calculus.specs.Relations.{Rule, Literal, Operand, Relation, equal, union, disjoint, subset, intersection, unequal, negation_row, operand_of}
 use Rattle.calculus.specs.Relations as R
 use Rattle.calculus.specs.Meaning.{Constraint, member, nonmember, same, different, relation, negation, exactly, interval}
 use Rattle.calculus.specs.Branch.{Branch, root, Fact, In, Same, assert, assert_all}
@@ -18,7 +18,6 @@ use Rattle.calculus.specs.Order.{Ranged}
 use Rattle.calculus.specs.Invariants.{WellFormed, ConstraintIn}
 use Rattle.calculus.specs.Search.{fact_of, at, distinct, children}
 use Rattle.calculus.proofs.Bools.{each_is_all, each_imp, each_map}
-use Rattle.calculus.proofs.Tables.{operand_each}
 use Rattle.calculus.proofs.Sequences.{up_at, each_at}
 use Rattle.calculus.proofs.Asserting.{below}
 use Rattle.calculus.proofs.Children.{asserts_fit}
@@ -26,7 +25,7 @@ use Rattle.calculus.proofs.AddingFacts.{each_distinct}
 use Rattle.calculus.proofs.WorkOrder.{some_each}
 use Rattle.places.specs.Places.{propagation_span, InSpan, RuleOf, row_of, list_move, move_at, entries_of}
 use Rattle.places.specs.Alternatives.{slots_of, class_child, child_of}
-use Rattle.places.proofs.Offered.{relation_19, negation_rule}
+use Rattle.places.proofs.Offered.{relation_19}
 use Rattle.places.proofs.Picking.{picked_map, picked_among, distinct_picked}
 
 -- what holds of each number of two spans holds of a number in one of them
@@ -59,15 +58,6 @@ module _ (constants : List Term) (b : Branch) where
   relation_slots disjoint A B C p = in_spans (BySlots (relation disjoint A B C) p) (13, 15) (0, 0) (refl, (refl, tt)) tt
   relation_slots subset A B C p = in_spans (BySlots (relation subset A B C) p) (15, 16) (0, 0) (refl, tt) tt
   relation_slots intersection A B C p = in_spans (BySlots (relation intersection A B C) p) (16, 19) (0, 0) (refl, (refl, (refl, tt))) tt
-  relation_slots difference A B C p = in_spans (BySlots (relation difference A B C) p) (21, 25) (25, 26) (refl, (refl, (refl, (refl, tt)))) (refl, tt)
-
-  negation_slots : (k : Negation) (A B C : SetVar) (w : Term) (p : ℕ) → BySlots (negation k A B C w) p (negation_row k).rule
-  unfolding slots_of child_of
-  negation_slots unequal A B C w p = refl
-  negation_slots nonunion A B C w p = refl
-  negation_slots overlap A B C w p = refl
-  negation_slots nonsubset A B C w p = refl
-  negation_slots nonintersection A B C w p = refl
 
   by_slots : (l : Constraint) (p j : ℕ) → RuleOf l j → BySlots l p j
   unfolding slots_of child_of
@@ -76,7 +66,7 @@ module _ (constants : List Term) (b : Branch) where
   by_slots (same t u) p = in_spans (BySlots (same t u) p) (3, 4) (0, 0) (refl, tt) tt
   by_slots (different t u) p = in_spans (BySlots (different t u) p) (4, 5) (0, 0) (refl, tt) tt
   by_slots (relation k A B C) p = relation_slots k A B C p
-  by_slots (negation k A B C w) p = λ j r. subst (BySlots (negation k A B C w) p) (sym (negation_rule k A B C w j r)) (negation_slots k A B C w p)
+  by_slots (negation unequal A B C w) p = in_spans (BySlots (negation unequal A B C w) p) (0, 0) (7, 8) tt (refl, tt)
   by_slots (exactly A es) p = in_spans (BySlots (exactly A es) p) (19, 20) (20, 21) (refl, tt) (classes es p, tt)
   by_slots (interval A x y es) p = in_spans (BySlots (interval A x y es) p) (19, 20) (20, 21) (refl, tt) (classes es p, tt)
 
@@ -93,6 +83,11 @@ child_among constants b l j p c d r h e = subst (Some (λ (x : Branch). x ≡ d)
 module _ (n m : ℕ) where
   abbrev InRange : List (List Fact) → Type 0
   InRange gs = Each (λ g. Each (Ranged n m) g) gs
+
+  pub operand_in : (A B C : SetVar) → (A.index < m) × (B.index < m) × (C.index < m) → (o : Operand) → (operand_of A B C o).index < m
+  operand_in A B C l R.A = l.0
+  operand_in A B C l R.B = l.1
+  operand_in A B C l R.C = l.2
 
   -- a row of the tables at a term
   row_in : (h : Term) (s : Operand → SetVar) → h.index < n → ((o : Operand) → (s o).index < m) → (r : Rule Literal) → InRange (at h s r).alternatives
@@ -123,8 +118,8 @@ module _ (n m : ℕ) where
     alternatives_in (nonmember t A) j p c r x y = ((c, tt), tt)
     alternatives_in (same t u) j p c r x y = ((c, tt), tt)
     alternatives_in (different t u) j p c r x y = tt
-    alternatives_in (relation k A B C) j p c r x y = row_in (term p) (operand_of A B C) (y (relation_19 k A B C j r)) (operand_each (λ (X : SetVar). X.index < m) c) (row_of k j)
-    alternatives_in (negation k A B C w) j p c r x y = row_in w (operand_of A B C) c.1 (operand_each (λ (X : SetVar). X.index < m) c.0) (negation_row k)
+    alternatives_in (relation k A B C) j p c r x y = row_in (term p) (operand_of A B C) (y (relation_19 k A B C j r)) (operand_in A B C c) (row_of k j)
+    alternatives_in (negation k A B C w) j p c r x y = row_in w (operand_of A B C) c.1 (operand_in A B C c.0) (negation_row k)
     alternatives_in (exactly A es) j p c r x y = list_in A es j p c.0 c.1 x y
     alternatives_in (interval A u v es) j p c r x y = list_in A es j p c.0 c.1 x y
 
@@ -157,7 +152,6 @@ propagation_slots (relation union A B C) j r = up_at (Single (relation union A B
 propagation_slots (relation disjoint A B C) j r = up_at (Single (relation disjoint A B C)) 13 2 (refl, (refl, tt)) j r.0 r.1
 propagation_slots (relation subset A B C) j r = up_at (Single (relation subset A B C)) 15 1 (refl, tt) j r.0 r.1
 propagation_slots (relation intersection A B C) j r = up_at (Single (relation intersection A B C)) 16 3 (refl, (refl, (refl, tt))) j r.0 r.1
-propagation_slots (relation difference A B C) j r = up_at (Single (relation difference A B C)) 21 4 (refl, (refl, (refl, (refl, tt)))) j r.0 r.1
 propagation_slots (negation k A B C w) j r = absurd (omega (arith, r.1))
 propagation_slots (exactly A es) j r = up_at (Single (exactly A es)) 19 1 (refl, tt) j r.0 r.1
 propagation_slots (interval A x y es) j r = up_at (Single (interval A x y es)) 19 1 (refl, tt) j r.0 r.1
@@ -177,7 +171,6 @@ module _ (b : Branch) (p : ℕ) where
   move_rule (relation disjoint A B C) = in_spans (Says (relation disjoint A B C)) (13, 15) (0, 0) (refl, (refl, tt)) tt
   move_rule (relation subset A B C) = in_spans (Says (relation subset A B C)) (15, 16) (0, 0) (refl, tt) tt
   move_rule (relation intersection A B C) = in_spans (Says (relation intersection A B C)) (16, 19) (0, 0) (refl, (refl, (refl, tt))) tt
-  move_rule (relation difference A B C) = in_spans (Says (relation difference A B C)) (21, 25) (25, 26) (refl, (refl, (refl, (refl, tt)))) (refl, tt)
-  move_rule (negation k A B C w) = λ j r. sym (negation_rule k A B C w j r)
+  move_rule (negation unequal A B C w) = in_spans (Says (negation unequal A B C w)) (0, 0) (7, 8) tt (refl, tt)
   move_rule (exactly A es) = in_spans (Says (exactly A es)) (19, 20) (20, 21) (refl, tt) (refl, tt)
   move_rule (interval A x y es) = in_spans (Says (interval A x y es)) (19, 20) (20, 21) (refl, tt) (refl, tt)

@@ -1,5 +1,5 @@
 -- The children of a step by number. Some numbers have none: the branch that a conflict leaves out, and a class of entries that stood before.
-use Rattle.std.specs.Prelude.{Bool, true, false, cond, List, [], ◌∷◌, ℕ, length, get_or, take, eqb}
+use Rattle.std.specs.Prelude.{Bool, true, false, cond, List, [], ℕ, length, get_or, take, eqb}
 use Rattle.std.proofs.Math.Option.{Option, none}
 use Rattle.calculus.specs.Lists.{any}
 use Rattle.calculus.specs.Terms.{Term, term}
@@ -7,17 +7,9 @@ use Rattle.calculus.specs.Meaning.{Constraint}
 use Rattle.calculus.specs.Branch.{Branch, root_at, root, Fact, Same, assert, assert_all}
 use Rattle.places.specs.Places.{move_at, entries_of}
 
--- a rule's number is in a list
-abbrev pub among : List ℕ → ℕ → Bool
-among js j = any (eqb j) js
-
--- how many children a rule other than 20 can have
-abbrev pub count_of : ℕ → ℕ
-count_of j = cond (among (7 ∷ 12 ∷ 25 ∷ []) j) 2 (cond (among (26 ∷ 29 ∷ []) j) 3 1)
-
--- how many numbers rule j has: rule 20 one for each entry, any other one for each child
+-- how many numbers rule j has: the splits 7 and 12 two, rule 20 one for each entry, any other one
 unfoldable pub slots_of : Constraint → ℕ → ℕ
-slots_of l j = cond (eqb j 20) (length (entries_of l)) (count_of j)
+slots_of l j = cond (eqb j 20) (length (entries_of l)) (cond (eqb j 7) 2 (cond (eqb j 12) 2 1))
 
 -- rule 20 at root p, entry c: none if its class is an earlier entry's
 abbrev pub class_child : List Term → Branch → List Term → ℕ → ℕ → Option Branch

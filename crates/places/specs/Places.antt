@@ -1,9 +1,9 @@
 -- The places of the search by constraint, rule and position. The calculus lists them; loops go by numbers.
-use Rattle.std.specs.Prelude.{◌⊎◌, Bool, true, false, cond, List, [], ◌∷◌, ◌++◌, ℕ, suc, ◌-◌, ◌≤◌, ◌<◌, length, get_or, eqb}
+use Rattle.std.specs.Prelude.{◌⊎◌, Bool, true, false, cond, List, [], ◌∷◌, ◌++◌, ℕ, ◌-◌, ◌≤◌, ◌<◌, length, get_or, eqb}
 use Rattle.std.proofs.Math.Option.{Option}
 use Rattle.calculus.specs.Lists.{up_from, keep, first}
 use Rattle.calculus.specs.Terms.{Term, SetVar, term}
-use Rattle.calculus.specs.Relations.{Rule, Literal, Relation, equal, union, disjoint, subset, intersection, difference, applies, propagation, propagation_rows, split_rows, negation_row, operand_of}
+use Rattle.calculus.specs.Relations.{Rule, Literal, Relation, equal, union, disjoint, subset, intersection, applies, propagation, propagation_rows, split_rows, negation_row, operand_of}
 use Rattle.calculus.specs.Relations as R
 use Rattle.calculus.specs.Meaning.{Constraint, member, nonmember, same, different, relation, negation, exactly, interval}
 use Rattle.calculus.specs.Branch.{Branch, root_at, root, In, Out, Same, known}
@@ -22,7 +22,6 @@ propagation_span (relation union A B C) = (8, 12)
 propagation_span (relation disjoint A B C) = (13, 15)
 propagation_span (relation subset A B C) = (15, 16)
 propagation_span (relation intersection A B C) = (16, 19)
-propagation_span (relation difference A B C) = (21, 25)
 propagation_span (negation k A B C w) = (0, 0)
 propagation_span (exactly A es) = (19, 20)
 propagation_span (interval A i j es) = (19, 20)
@@ -38,8 +37,7 @@ split_span (relation union A B C) = (12, 13)
 split_span (relation disjoint A B C) = (0, 0)
 split_span (relation subset A B C) = (0, 0)
 split_span (relation intersection A B C) = (0, 0)
-split_span (relation difference A B C) = (25, 26)
-split_span (negation k A B C w) = ((negation_row k).rule, suc (negation_row k).rule)
+split_span (negation k A B C w) = (7, 8)
 split_span (exactly A es) = (20, 21)
 split_span (interval A i j es) = (20, 21)
 
@@ -62,7 +60,6 @@ first_row union = 8
 first_row disjoint = 13
 first_row subset = 15
 first_row intersection = 16
-first_row difference = 21
 
 abbrev pub row_of : Relation → ℕ → Rule Literal
 row_of k j = get_or (propagation_rows k ++ split_rows k) (j - first_row k) (propagation 0 [] (R.In R.A))

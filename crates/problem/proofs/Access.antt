@@ -11,7 +11,7 @@ use lib.IntN.{ℤ, pos}
 use Rattle.calculus.specs.Limits.{most_bytes, most_sets, most_constraints, most_terms}
 use Rattle.calculus.specs.Lists.{gather}
 use Rattle.calculus.specs.Terms.{Term, SetVar, term, set_var}
-use Rattle.calculus.specs.Relations.{Negation, equal, union, disjoint, subset, intersection, difference, unequal, nonunion, overlap, nonsubset, nonintersection}
+use Rattle.calculus.specs.Relations.{Negation, equal, union, disjoint, subset, intersection, unequal}
 use Rattle.calculus.specs.Meaning.{Constraint, member, nonmember, same, different, relation, negation, exactly, interval}
 use Rattle.calculus.specs.Problem.{Problem, nameable, term_count, uses, Tied, Numbered}
 use Rattle.calculus.specs.Encoding.{encode_constraint}
@@ -112,12 +112,7 @@ kind_first (relation union A B C) = (_, refl)
 kind_first (relation disjoint A B C) = (_, refl)
 kind_first (relation subset A B C) = (_, refl)
 kind_first (relation intersection A B C) = (_, refl)
-kind_first (relation difference A B C) = (_, refl)
 kind_first (negation unequal A B C w) = (_, refl)
-kind_first (negation nonunion A B C w) = (_, refl)
-kind_first (negation overlap A B C w) = (_, refl)
-kind_first (negation nonsubset A B C w) = (_, refl)
-kind_first (negation nonintersection A B C w) = (_, refl)
 kind_first (exactly A es) = (_, refl)
 kind_first (interval A i j es) = (_, refl)
 
@@ -174,12 +169,7 @@ list_is (relation union A B C) e = absurd (omega arith)
 list_is (relation disjoint A B C) e = absurd (omega arith)
 list_is (relation subset A B C) e = absurd (omega arith)
 list_is (relation intersection A B C) e = absurd (omega arith)
-list_is (relation difference A B C) e = absurd (omega arith)
 list_is (negation unequal A B C w) e = absurd (omega arith)
-list_is (negation nonunion A B C w) e = absurd (omega arith)
-list_is (negation overlap A B C w) e = absurd (omega arith)
-list_is (negation nonsubset A B C w) e = absurd (omega arith)
-list_is (negation nonintersection A B C w) e = absurd (omega arith)
 list_is (exactly A es) e = (A, es, refl)
 list_is (interval A i j es) e = absurd (omega arith)
 

@@ -12,7 +12,7 @@ use lib.IntN.{ℤ}
 use Rattle.calculus.specs.Limits.{most_constraints}
 use Rattle.calculus.specs.Lists.{all}
 use Rattle.calculus.specs.Terms.{SetVar, term, set_var}
-use Rattle.calculus.specs.Relations.{union, intersection, difference, Negation, unequal, nonunion, overlap, nonsubset, nonintersection}
+use Rattle.calculus.specs.Relations.{union, intersection, unequal}
 use Rattle.calculus.specs.Meaning.{Constraint, member, nonmember, same, different, relation, negation, exactly, interval}
 use Rattle.calculus.specs.Problem.{Rising, entries, uses}
 use Rattle.calculus.specs.Encoding.{encode_constraint}
@@ -55,10 +55,6 @@ retie_bytes w (same t u) = refl
 retie_bytes w (different t u) = refl
 retie_bytes w (relation k A B C) = refl
 retie_bytes w (negation unequal A B C u) = refl
-retie_bytes w (negation nonunion A B C u) = refl
-retie_bytes w (negation overlap A B C u) = refl
-retie_bytes w (negation nonsubset A B C u) = refl
-retie_bytes w (negation nonintersection A B C u) = refl
 retie_bytes w (exactly A es) = refl
 retie_bytes w (interval A i j es) = refl
 
@@ -93,14 +89,14 @@ module _ (cs : List ℤ) (N S w : ℕ) where
       go true = ap (λ (l : Constraint). parsed (l, r)) (h x y)
       go false = refl
 
-  like_three : (make make' : SetVar → SetVar → SetVar → Constraint) → ((A B C : SetVar) → make A B C ≡ retie w (make' A B C)) → Like (three cs N S make) (three cs N S make')
+  like_three : (make : SetVar → SetVar → SetVar → Constraint) → ((A B C : SetVar) → make A B C ≡ retie w (make A B C)) → Like (three cs N S make) (three cs N S make)
   unfolding ◌>>=◌ byte ask
-  like_three make make' h [] = refl
-  like_three make make' h (x ∷ []) = refl
-  like_three make make' h (x ∷ y ∷ []) = refl
-  like_three make make' h (x ∷ y ∷ z ∷ r) = go (ltb x S && ltb y S && ltb z S)
+  like_three make h [] = refl
+  like_three make h (x ∷ []) = refl
+  like_three make h (x ∷ y ∷ []) = refl
+  like_three make h (x ∷ y ∷ z ∷ r) = go (ltb x S && ltb y S && ltb z S)
     where
-      go : (t : Bool) → (ask 8 t >>= λ _. parsed (make (set_var x) (set_var y) (set_var z), r)) ≡ tied (ask 8 t >>= λ _. parsed (make' (set_var x) (set_var y) (set_var z), r))
+      go : (t : Bool) → (ask 8 t >>= λ _. parsed (make (set_var x) (set_var y) (set_var z), r)) ≡ tied (ask 8 t >>= λ _. parsed (make (set_var x) (set_var y) (set_var z), r))
       go true = ap (λ (l : Constraint). parsed (l, r)) (h (set_var x) (set_var y) (set_var z))
       go false = refl
 
@@ -136,9 +132,6 @@ module _ (cs : List ℤ) (N S w : ℕ) where
     end : Alike [] []
     ◌▸◌ : {p q : Parser} {ps qs : List Parser} → Like p q → Alike ps qs → Alike (p ∷ ps) (q ∷ qs)
 
-  abbrev denial : Negation → ℕ → SetVar → SetVar → SetVar → Constraint
-  denial k u A B C = negation k A B C (term u)
-
   alike : Alike (kinds cs N S w) (kinds cs N S 0)
   alike =
       like_refuse 7
@@ -148,17 +141,12 @@ module _ (cs : List ℤ) (N S w : ℕ) where
       ▸ like_two N N _ _ (λ x y. refl)
       ▸ like_two S S _ _ (λ x y. refl)
       ▸ like_two S S _ _ (λ x y. refl)
-      ▸ like_three (relation union) (relation union) (λ A B C. refl)
+      ▸ like_three (relation union) (λ A B C. refl)
       ▸ like_two S S _ _ (λ x y. refl)
       ▸ like_two S S _ _ (λ x y. refl)
-      ▸ like_three (relation intersection) (relation intersection) (λ A B C. refl)
+      ▸ like_three (relation intersection) (λ A B C. refl)
       ▸ like_list
       ▸ like_interval
-      ▸ like_three (relation difference) (relation difference) (λ A B C. refl)
-      ▸ like_three (denial nonunion w) (denial nonunion 0) (λ A B C. refl)
-      ▸ like_two S S _ _ (λ x y. refl)
-      ▸ like_two S S _ _ (λ x y. refl)
-      ▸ like_three (denial nonintersection w) (denial nonintersection 0) (λ A B C. refl)
       ▸ end
 
   alike_at : (ps qs : List Parser) → Alike ps qs → (j : ℕ) → Like (get_or ps j (refuse 7)) (get_or qs j (refuse 7))

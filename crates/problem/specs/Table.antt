@@ -2,7 +2,7 @@
 use Rattle.std.specs.Prelude.{◌≡◌, List, [], ℕ, ◌+◌, ◌*◌, ◌<◌, length, get_or, replicate, ℤ, pos}
 use Rattle.calculus.specs.Limits.{most_constraints}
 use Rattle.calculus.specs.Terms.{Term, SetVar, term}
-use Rattle.calculus.specs.Relations.{equal, union, disjoint, subset, intersection, difference, unequal, nonunion, overlap, nonsubset, nonintersection}
+use Rattle.calculus.specs.Relations.{equal, union, disjoint, subset, intersection, unequal}
 use Rattle.calculus.specs.Meaning.{Constraint, member, nonmember, same, different, relation, negation, exactly, interval}
 use Rattle.calculus.specs.Problem.{Problem, constant_count, nameable, term_count, set_count}
 use Rattle.calculus.specs.Reading.{Parsed, parsed, refused, read}
@@ -96,11 +96,6 @@ kind_of (relation subset A B C) = 9
 kind_of (relation intersection A B C) = 10
 kind_of (exactly A es) = 11
 kind_of (interval A i j es) = 12
-kind_of (relation difference A B C) = 13
-kind_of (negation nonunion A B C w) = 14
-kind_of (negation overlap A B C w) = 15
-kind_of (negation nonsubset A B C w) = 16
-kind_of (negation nonintersection A B C w) = 17
 
 -- the term number of constraint i's witness; where it has none, of the next one
 unfoldable pub witnesses_of : Parsed Problem → List ℕ

@@ -37,36 +37,36 @@ module _ (bs : List ℕ) (at : ℕ) where
       unfolding two_at
       two_good x y = rw (room 2 h (omega arith), lt-ltb (get_or bs at 0) p x, lt-ltb (get_or bs (at + 1) 0) q y) refl
 
-  module _ (p q s w : ℕ) where
-    pub three_short : at ≤ length bs → length bs - at < 3 → refused_by 2 ≡ three_at p q s w bs at
+  module _ (p q s : ℕ) where
+    pub three_short : at ≤ length bs → length bs - at < 3 → refused_by 2 ≡ three_at p q s bs at
     unfolding three_at
     three_short b h = rw (no_room 3 b h) refl
 
     module _ (h : 3 ≤ length bs - at) where
-      pub three_first : p ≤ get_or bs at 0 → refused_by 8 ≡ three_at p q s w bs at
+      pub three_first : p ≤ get_or bs at 0 → refused_by 8 ≡ three_at p q s bs at
       unfolding three_at
       three_first x = rw (room 3 h (omega arith), le-ltb (get_or bs at 0) p x) refl
 
-      pub three_second : get_or bs at 0 < p → q ≤ get_or bs (at + 1) 0 → refused_by 8 ≡ three_at p q s w bs at
+      pub three_second : get_or bs at 0 < p → q ≤ get_or bs (at + 1) 0 → refused_by 8 ≡ three_at p q s bs at
       unfolding three_at
       three_second x y = rw (room 3 h (omega arith), lt-ltb (get_or bs at 0) p x, le-ltb (get_or bs (at + 1) 0) q y) refl
 
-      pub three_third : get_or bs at 0 < p → get_or bs (at + 1) 0 < q → s ≤ get_or bs (at + 2) 0 → refused_by 8 ≡ three_at p q s w bs at
+      pub three_third : get_or bs at 0 < p → get_or bs (at + 1) 0 < q → s ≤ get_or bs (at + 2) 0 → refused_by 8 ≡ three_at p q s bs at
       unfolding three_at
       three_third x y z = rw (room 3 h (omega arith), lt-ltb (get_or bs at 0) p x, lt-ltb (get_or bs (at + 1) 0) q y, le-ltb (get_or bs (at + 2) 0) s z) refl
 
-      pub three_good : get_or bs at 0 < p → get_or bs (at + 1) 0 < q → get_or bs (at + 2) 0 < s → accepted_to (at + 3) w ≡ three_at p q s w bs at
+      pub three_good : get_or bs at 0 < p → get_or bs (at + 1) 0 < q → get_or bs (at + 2) 0 < s → accepted_to (at + 3) 0 ≡ three_at p q s bs at
       unfolding three_at
       three_good x y z = rw (room 3 h (omega arith), lt-ltb (get_or bs at 0) p x, lt-ltb (get_or bs (at + 1) 0) q y, lt-ltb (get_or bs (at + 2) 0) s z) refl
 
     -- three operands that are accepted are there
-    pub three_there : (r : Scanned) → r ≡ three_at p q s w bs at → r.refusal ≡ 0 → at + 3 ≤ length bs
+    pub three_there : (r : Scanned) → r ≡ three_at p q s bs at → r.refusal ≡ 0 → at + 3 ≤ length bs
     unfolding three_at
     three_there r e z = go (leb (at + 3) (length bs)) refl
       where
         go : (t : Bool) → leb (at + 3) (length bs) ≡ t → at + 3 ≤ length bs
         go true g = leb-true (at + 3) (length bs) g
-        go false g = let f : three_at p q s w bs at ≡ refused_by 2 = rw g refl in let two : ◌≡◌ {A = ℕ} 2 0 = sym (ap (λ (x : Scanned). x.refusal) (e ∙ f)) ∙ z in absurd (omega arith)
+        go false g = let f : three_at p q s bs at ≡ refused_by 2 = rw g refl in let two : ◌≡◌ {A = ℕ} 2 0 = sym (ap (λ (x : Scanned). x.refusal) (e ∙ f)) ∙ z in absurd (omega arith)
 
   module _ (N S : ℕ) where
     pub list_short : at ≤ length bs → length bs - at < 2 → refused_by 2 ≡ list_at N S bs at
@@ -98,7 +98,7 @@ module _ (bs : List ℕ) (at : ℕ) where
           pub list_terms : t ≡ false → refused_by 8 ≡ list_at N S bs at
           list_terms g = sym (ap (λ (b : Bool). cond b (accepted_to e 0) (refused_by 8)) g) ∙ list_is
 
-  module _ (k N S : ℕ) (r : Scanned) (three : r ≡ three_at S N N 0 bs at) where
+  module _ (k N S : ℕ) (r : Scanned) (three : r ≡ three_at S N N bs at) where
     abbrev i : ℕ
     i = get_or bs (at + 1) 0
 

@@ -13,8 +13,8 @@ use lib.IntN.{ℤ}
 use borrow.Author.Tests.{le-leb, lt-leb, leb-true, leb-false}
 use Rattle.calculus.specs.Lists.{all}
 use Rattle.calculus.specs.Terms.{SetVar, term, set_var}
-use Rattle.calculus.specs.Relations.{union, intersection, difference, nonunion, nonintersection}
-use Rattle.calculus.specs.Meaning.{Constraint, relation, negation, exactly, interval}
+use Rattle.calculus.specs.Relations.{union, intersection}
+use Rattle.calculus.specs.Meaning.{Constraint, relation, exactly, interval}
 use Rattle.calculus.specs.Problem.{entries, uses}
 use Rattle.calculus.specs.Reading.{parsed, ◌>>=◌, ask, byte, bytes, gapless, Parser, refuse, two, three, of_list, of_interval, kinds, constraint}
 use Rattle.questions.specs.declared.Scanned.{Scanned}
@@ -70,15 +70,15 @@ module _ (cs : List ℤ) (N S : ℕ) (bs : List ℕ) (at : ℕ) where
             rw (le-leb (at + 2) (length bs) (omega arith), left_first bs at v e, left_at bs at v e 1)
             (asked (length bs) (at + 2) w (make x y) u (omega arith) (same x y) 8 (ltb x p && ltb y q))
 
-  module _ (w : ℕ) (make : SetVar → SetVar → SetVar → Constraint) (same : (A B C : SetVar) → uses (make A B C) ≡ w) where
-    pub three_is : scanned_of (length bs) (three cs N S make (drop at bs)) ≡ three_at S S S w bs at
+  module _ (make : SetVar → SetVar → SetVar → Constraint) (same : (A B C : SetVar) → uses (make A B C) ≡ 0) where
+    pub three_is : scanned_of (length bs) (three cs N S make (drop at bs)) ≡ three_at S S S bs at
     unfolding scanned_of three_at ◌>>=◌ byte
     three_is = go (drop at bs) refl
       where
-        short : length bs < at + 3 → refused_by 2 ≡ three_at S S S w bs at
+        short : length bs < at + 3 → refused_by 2 ≡ three_at S S S bs at
         short l = rw (lt-leb (at + 3) (length bs) l) refl
 
-        go : (u : List ℕ) → drop at bs ≡ u → scanned_of (length bs) (three cs N S make u) ≡ three_at S S S w bs at
+        go : (u : List ℕ) → drop at bs ≡ u → scanned_of (length bs) (three cs N S make u) ≡ three_at S S S bs at
         go [] e = short (omega (arith, left_length bs at [] e))
         go (x ∷ []) e = short (omega (arith, left_length bs at (x ∷ []) e))
         go (x ∷ y ∷ []) e = short (omega (arith, left_length bs at (x ∷ y ∷ []) e))
@@ -86,7 +86,7 @@ module _ (cs : List ℤ) (N S : ℕ) (bs : List ℕ) (at : ℕ) where
             let v : List ℕ = x ∷ y ∷ z ∷ u in
             let h : length bs - at ≡ suc (suc (suc (length u))) = left_length bs at v e in
             rw (le-leb (at + 3) (length bs) (omega arith), left_first bs at v e, left_at bs at v e 1, left_at bs at v e 2)
-            (asked (length bs) (at + 3) w (make (set_var x) (set_var y) (set_var z)) u (omega arith) (same (set_var x) (set_var y) (set_var z)) 8 (ltb x S && ltb y S && ltb z S))
+            (asked (length bs) (at + 3) 0 (make (set_var x) (set_var y) (set_var z)) u (omega arith) (same (set_var x) (set_var y) (set_var z)) 8 (ltb x S && ltb y S && ltb z S))
 
   pub list_is : scanned_of (length bs) (of_list cs N S (drop at bs)) ≡ list_at N S bs at
   unfolding scanned_of list_at ◌>>=◌ byte bytes
@@ -183,21 +183,12 @@ module _ (constants N S : ℕ) (bs : List ℕ) (at : ℕ) where
     two_sets (inl e) = two_kind 5 S S 0 _ (λ x y. refl) refl e
     two_sets (inr h) = ⊎_elim (two_kind 8 S S 0 _ (λ x y. refl) refl) (two_kind 9 S S 0 _ (λ x y. refl) refl) (either k 8 h.0 h.1)
 
-    -- kinds with a witness
-    pub two_sets_witnessed : (k ≡ 6) ⊎ ((15 ≤ k) × (k < 17)) → two_at S S 1 bs (at + 1) ≡ answer
-    two_sets_witnessed (inl e) = two_kind 6 S S 1 _ (λ x y. refl) refl e
-    two_sets_witnessed (inr h) = ⊎_elim (two_kind 15 S S 1 _ (λ x y. refl) refl) (two_kind 16 S S 1 _ (λ x y. refl) refl) (either k 15 h.0 h.1)
+    pub unequal_sets : k ≡ 6 → two_at S S 1 bs (at + 1) ≡ answer
+    unequal_sets = two_kind 6 S S 1 _ (λ x y. refl) refl
 
-    three_kind : (n w : ℕ) (make : SetVar → SetVar → SetVar → Constraint) → ((A B C : SetVar) → uses (make A B C) ≡ w)
-        → scanned_of (length bs) (three (constants_of bs constants) N S make (drop (at + 1) bs)) ≡ scanned_of (length bs) (get_or (kinds (constants_of bs constants) N S 0) n (refuse 7) (drop (at + 1) bs))
-        → k ≡ n → three_at S S S w bs (at + 1) ≡ answer
-    three_kind n w make same here e = sym (three_is (constants_of bs constants) N S bs (at + 1) w make same) ∙ (here ∙ kind_is n e)
-
-    pub three_sets : (k ≡ 7) ⊎ (k ≡ 10) ⊎ (k ≡ 13) → three_at S S S 0 bs (at + 1) ≡ answer
-    three_sets = ⊎_elim (three_kind 7 0 (relation union) (λ A B C. refl) refl) (⊎_elim (three_kind 10 0 (relation intersection) (λ A B C. refl) refl) (three_kind 13 0 (relation difference) (λ A B C. refl) refl))
-
-    pub three_sets_witnessed : (k ≡ 14) ⊎ (k ≡ 17) → three_at S S S 1 bs (at + 1) ≡ answer
-    three_sets_witnessed = ⊎_elim (three_kind 14 1 (λ A B C. negation nonunion A B C (term 0)) (λ A B C. refl) refl) (three_kind 17 1 (λ A B C. negation nonintersection A B C (term 0)) (λ A B C. refl) refl)
+    pub three_sets : (k ≡ 7) ⊎ (k ≡ 10) → three_at S S S bs (at + 1) ≡ answer
+    three_sets (inl e) = sym (three_is (constants_of bs constants) N S bs (at + 1) (relation union) (λ A B C. refl)) ∙ kind_is 7 e
+    three_sets (inr e) = sym (three_is (constants_of bs constants) N S bs (at + 1) (relation intersection) (λ A B C. refl)) ∙ kind_is 10 e
 
     pub a_list : k ≡ 11 → list_at N S bs (at + 1) ≡ answer
     a_list e = sym (list_is (constants_of bs constants) N S bs (at + 1)) ∙ kind_is 11 e
@@ -205,8 +196,8 @@ module _ (constants N S : ℕ) (bs : List ℕ) (at : ℕ) where
     pub an_interval : 1 + 2 * constants ≤ length bs → k ≡ 12 → interval_at constants N S bs (at + 1) ≡ answer
     an_interval room e = sym (interval_is constants N S bs (at + 1) room) ∙ kind_is 12 e
 
-    -- 0, or above 17
-    pub unknown_kind : (k < 1) ⊎ (17 < k) → refused_by 7 ≡ answer
+    -- 0, or above 12
+    pub unknown_kind : (k < 1) ⊎ (12 < k) → refused_by 7 ≡ answer
     unfolding scanned_of
     unknown_kind (inl h) = kind_is 0 (omega arith)
     unknown_kind (inr h) = sym (ap (λ (p : Parser). scanned_of (length bs) (p (drop (at + 1) bs))) (get_or-eq_default (kinds (constants_of bs constants) N S 0) (refuse 7) h)) ∙ kind_is k refl

@@ -39,11 +39,11 @@ two_at p q w bs at =
     (cond (ltb (get_or bs at 0) p && ltb (get_or bs (at + 1) 0) q) (accepted_to (at + 2) w) (refused_by 8))
     (refused_by 2)
 
--- three operands, each below its bound; w witnesses
-unfoldable pub three_at : ℕ → ℕ → ℕ → ℕ → List ℕ → ℕ → Scanned
-three_at p q s w bs at =
+-- three operands, each below its bound
+unfoldable pub three_at : ℕ → ℕ → ℕ → List ℕ → ℕ → Scanned
+three_at p q s bs at =
     cond (leb (at + 3) (length bs))
-    (cond (ltb (get_or bs at 0) p && ltb (get_or bs (at + 1) 0) q && ltb (get_or bs (at + 2) 0) s) (accepted_to (at + 3) w) (refused_by 8))
+    (cond (ltb (get_or bs at 0) p && ltb (get_or bs (at + 1) 0) q && ltb (get_or bs (at + 2) 0) s) (accepted_to (at + 3) 0) (refused_by 8))
     (refused_by 2)
 
 -- a set, a count n and n terms
@@ -59,7 +59,7 @@ list_at N S bs at =
 -- a set and two terms, and then what question 9 asks of them
 unfoldable pub interval_at : ℕ → ℕ → ℕ → List ℕ → ℕ → Scanned
 interval_at k N S bs at =
-    let r = three_at S N N 0 bs at in
+    let r = three_at S N N bs at in
     let i = get_or bs (at + 1) 0 in
     let j = get_or bs (at + 2) 0 in
     cond (eqb r.refusal 0 && not (ltb i k && ltb j k && gapless (constants_of bs k) i j)) (refused_by 9) r

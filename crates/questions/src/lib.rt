@@ -115,9 +115,9 @@ fn two_at(problem: &[u8], at: usize, first: usize, second: usize, witnesses: u8)
 }
 
 // Three operands, each below its bound.
-fn three_at(problem: &[u8], at: usize, p: usize, q: usize, s: usize, witnesses: u8) -> Scanned
+fn three_at(problem: &[u8], at: usize, p: usize, q: usize, s: usize) -> Scanned
     requires { at ≤ length problem.now }
-    ensures { result ≡ three_at p q s witnesses problem.now at }
+    ensures { result ≡ three_at p q s problem.now at }
 {
     if problem.len() - at < 3 {
         return refused(2);
@@ -131,7 +131,7 @@ fn three_at(problem: &[u8], at: usize, p: usize, q: usize, s: usize, witnesses: 
     if s <= problem[at + 2] as usize {
         return refused(8);
     }
-    accepted(at + 3, witnesses)
+    accepted(at + 3, 0)
 }
 
 // A set, a count, and as many terms: the part that has them is looked at where it stands.
@@ -162,7 +162,7 @@ fn interval_at(problem: &[u8], at: usize, sizes: Sizes) -> Scanned
     requires { (at ≤ length problem.now) × (1 + 2 * sizes.constants ≤ length problem.now) × (sizes.constants < 256) × ConstantsRise problem.now sizes.constants }
     ensures { result ≡ interval_at sizes.constants sizes.nameable sizes.sets problem.now at }
 {
-    let operands = three_at(problem, at, sizes.sets, sizes.nameable, sizes.nameable, 0);
+    let operands = three_at(problem, at, sizes.sets, sizes.nameable, sizes.nameable);
     if operands.refusal != 0 {
         return operands;
     }
@@ -194,9 +194,8 @@ pub fn constraint_at(problem: &[u8], at: usize, sizes: Sizes) -> Scanned
             1 | 2 => two_at(problem, from, sizes.nameable, sizes.sets, 0),
             3 | 4 => two_at(problem, from, sizes.nameable, sizes.nameable, 0),
             5 | 8 | 9 => two_at(problem, from, sizes.sets, sizes.sets, 0),
-            6 | 15 | 16 => two_at(problem, from, sizes.sets, sizes.sets, 1),
-            7 | 10 | 13 => three_at(problem, from, sizes.sets, sizes.sets, sizes.sets, 0),
-            14 | 17 => three_at(problem, from, sizes.sets, sizes.sets, sizes.sets, 1),
+            6 => two_at(problem, from, sizes.sets, sizes.sets, 1),
+            7 | 10 => three_at(problem, from, sizes.sets, sizes.sets, sizes.sets),
             11 => list_at(problem, from, sizes),
             12 => interval_at(problem, from, sizes),
             _ => refused(7),

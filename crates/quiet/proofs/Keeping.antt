@@ -1,9 +1,9 @@
 -- A constraint stays idle where a branch grows, if no rule of it needs what is new, and none needs two facts where two classes become one.
-use mathlib.Core.Path.{◌≡◌, refl, sym, ◌∙◌, ap, subst}
+use mathlib.Core.Path.{◌≡◌, refl, sym, ◌∙◌, subst}
 use mathlib.Core.Logic.{◌⊎◌, inl, inr}
 use mathlib.Core.Bool.{Bool, true, false, true≢false}
 use mathlib.Core.Option.{none}
-use mathlib.Core.List.{List, [], ◌∷◌, map}
+use mathlib.Core.List.{List, [], ◌∷◌}
 use Prim.Native.Nat.{ℕ, ◌+◌, ◌<◌}
 use native.Mathlib.Omega.{arith}
 use lib.ListN.{length, get_or, length-map}
@@ -12,7 +12,7 @@ use borrow.Author.Tests.{eqb-true, eq-eqb}
 use Rattle.calculus.specs.Limits.{most_sets}
 use Rattle.calculus.specs.Lists.{up_from, any, first, bit, Each}
 use Rattle.calculus.specs.Terms.{Term, SetVar, term}
-use Rattle.calculus.specs.Relations.{Rule, Literal, Relation, applies, propagation, Negation, unequal, nonunion, overlap, nonsubset, nonintersection, negation_row, operand_of}
+use Rattle.calculus.specs.Relations.{Rule, Literal, Relation, applies, propagation, negation_row, operand_of, unequal}
 use Rattle.calculus.specs.Meaning.{Constraint, member, nonmember, same, different, relation, negation, exactly, interval}
 use Rattle.calculus.specs.Branch.{Branch, root_at, In, Out, Same, known}
 use Rattle.calculus.specs.Invariants.{ConstraintIn}
@@ -27,14 +27,6 @@ use Rattle.fits.proofs.RowBits.{known_in, known_out, number_low}
 use Rattle.quiet.specs.Quiet.{Idle, needs, pairs}
 use Rattle.quiet.proofs.Sayings.{Saying, literal, holds, says, literal_of, tabled, chosen, once, tabled_said, chosen_said}
 use Rattle.quiet.proofs.Growing.{Grows, Old, moved_none, free_kept, root_kept}
-
--- a negation's split needs nothing
-no_premises : (k : Negation) → (negation_row k).premises ≡ []
-no_premises unequal = refl
-no_premises nonunion = refl
-no_premises overlap = refl
-no_premises nonsubset = refl
-no_premises nonintersection = refl
 
 -- no rule of the constraint needs a literal of the word; and nothing is merged, or no rule needs two facts
 pub record Spared (n : ℕ) (l : Constraint) (lo hi word : ℕ) : Type 0 where
@@ -104,7 +96,7 @@ module _ {b c : Branch} {lo hi word : ℕ} (g : Grows b c lo hi word) where
     kept (same t u) j s o = term_kept (propagation 3 [] (Same t u)) t (propagation 3 [] (holds u)) refl (λ x. refl)
     kept (different t u) j s o = different_kept t u j (s.unpaired j o)
     kept (relation k A B C) j s o = relation_kept k A B C j s o
-    kept (negation k A B C w) j s o = term_kept (at w (operand_of A B C) (negation_row k)) w (tabled A B C (negation_row k)) (ap (map (literal_of A B C)) (no_premises k)) (λ x. tabled_said x w.index (root_at x w.index) refl A B C s.in_range.0 (negation_row k))
+    kept (negation unequal A B C w) j s o = term_kept (at w (operand_of A B C) (negation_row unequal)) w (tabled A B C (negation_row unequal)) refl (λ x. tabled_said x w.index (root_at x w.index) refl A B C s.in_range.0 (negation_row unequal))
     kept (exactly A es) j s o = list_kept A es j s o
     kept (interval A x y es) j s o = list_kept A es j (record { in_range = s.in_range; unneeded = s.unneeded; unpaired = s.unpaired }) o
 

@@ -1,9 +1,8 @@
 -- The rows of the calculus's tables as the code lays them out.
-use Rattle.std.specs.Prelude.{◌≡◌, Bool, true, ◌&&◌, ◌||◌, List, [], ◌∷◌, ◌++◌, ℕ, ◌+◌, ◌-◌, ◌<◌, length, get_or, eqb, leb}
+use Rattle.std.specs.Prelude.{◌≡◌, Bool, cond, List, [], ◌∷◌, ◌++◌, ℕ, ◌+◌, ◌-◌, ◌≤◌, ◌<◌, length, get_or, eqb}
 use Rattle.calculus.specs.Limits.{most_sets}
-use Rattle.calculus.specs.Relations.{Rule, propagation, rows, equal, union, disjoint, subset, intersection, difference, unequal, nonunion, overlap, nonsubset, nonintersection, Operand, operand_of, negation_row}
+use Rattle.calculus.specs.Relations.{Rule, propagation, rows, equal, union, disjoint, subset, intersection, unequal, Operand, operand_of, negation_row}
 use Rattle.calculus.specs.Relations as R
-use Rattle.places.specs.Alternatives.{among}
 use Rattle.terms.specs.declared.SetVar.{SetVar}
 use Rattle.rules.specs.declared.Literal.{Literal}
 use Rattle.rules.specs.declared.Row.{Row}
@@ -11,49 +10,41 @@ use Rattle.rules.specs.declared.Split.{Split}
 use Rattle.rules.specs.declared.Child.{Child}
 use Rattle.rules.specs.declared.Denial.{Denial}
 
--- the rows of the tables from rule 5 on; rules 19 and 20, of lists, have none
-abbrev pub no_row : Rule R.Literal
-no_row = propagation 0 [] (R.In R.A)
-
-abbrev pub tables : List (Rule R.Literal)
-tables = rows equal ++ negation_row unequal ∷ rows union ++ rows disjoint ++ rows subset ++ rows intersection ++ no_row ∷ no_row ∷ rows difference ++ negation_row nonunion ∷ negation_row overlap ∷ negation_row nonsubset ∷ negation_row nonintersection ∷ []
-
--- the row of rule j
+-- the rows of the tables by rule number, from 5 to 18
 abbrev pub numbered : ℕ → Rule R.Literal
-numbered j = get_or tables (j - 5) no_row
+numbered j = get_or (rows equal ++ negation_row unequal ∷ rows union ++ rows disjoint ++ rows subset ++ rows intersection) (j - 5) (propagation 0 [] (R.In R.A))
 
 -- the literals of its child c
 abbrev pub literals_of : (j c : ℕ) → List R.Literal
 literals_of j c = get_or (numbered j).alternatives c []
 
--- the rules with rows: propagation rules and splits of relations, and splits of negations
-abbrev pub forced_rules : List ℕ
-forced_rules = 24 ∷ 23 ∷ 22 ∷ 21 ∷ 18 ∷ 17 ∷ 16 ∷ 15 ∷ 14 ∷ 13 ∷ 11 ∷ 10 ∷ 9 ∷ 8 ∷ 6 ∷ 5 ∷ []
-
-abbrev pub forcing : ℕ → Bool
-forcing = among forced_rules
-
-abbrev pub splitting : ℕ → Bool
-splitting = among (25 ∷ 12 ∷ [])
-
-abbrev pub negating : ℕ → Bool
-negating j = eqb j 7 || (leb 26 j && leb j 29)
-
-abbrev pub has_row : ℕ → Bool
-has_row j = splitting j || (negating j || forcing j)
+-- how many children a rule can have: the splits 7 and 12 two, any other but 20 one
+abbrev pub count_of : ℕ → ℕ
+count_of j = cond (eqb j 7) 2 (cond (eqb j 12) 2 1)
 
 -- the numbers of three sets, by operand
 abbrev pub sets : (a b c : SetVar) → Operand → ℕ
 sets a b c = operand_of a.0 b.0 c.0
 
--- three sets below the limit
-abbrev pub LowSets : (a b c : SetVar) → Type 0
-LowSets a b c = (a.0 < most_sets) × (b.0 < most_sets) × (c.0 < most_sets)
+-- rule j has a row, or a child n; its first two sets are a and b
+pub record HasRow (j : ℕ) (a b : SetVar) : Type 0 where
+  pub low : 5 ≤ j
+  pub high : j ≤ 18
+  pub no_negation : ¬ (j ≡ 7)
+  pub no_split : ¬ (j ≡ 12)
+  pub first_set : a.0 < most_sets
+  pub second_set : b.0 < most_sets
 
--- rule j has a row, and a child n
-pub record HasChild (j n : ℕ) : Type 0 where
-  pub row : has_row j ≡ true
+pub record HasChild (j : ℕ) (a b : SetVar) (n : ℕ) : Type 0 where
+  pub low : 5 ≤ j
+  pub high : j ≤ 18
+  pub first_set : a.0 < most_sets
+  pub second_set : b.0 < most_sets
   pub there : n < length (numbered j).alternatives
+
+-- the rules of relations that split
+abbrev pub splitting : ℕ → Bool
+splitting j = eqb j 12
 
 -- a literal's number, and the operand that it is of
 abbrev pub literal_number : (Operand → ℕ) → R.Literal → ℕ

@@ -1,8 +1,8 @@
 // The rules as tables: which a constraint has, what each needs and gives.
-ghost use Rattle.std.specs.Prelude.{◌≡◌, true};
-ghost use Rattle.places.specs.Alternatives.{count_of};
+ghost use Rattle.std.specs.Prelude.{◌≡◌, ◌<◌};
+ghost use Rattle.calculus.specs.Limits.{most_sets};
 ghost use Rattle.rules.specs.Spans.{Spanned};
-ghost use Rattle.rules.specs.Rows.{sets, LowSets, numbered, forcing, splitting, negating, HasChild, laid, parted, only, child, literals_of, denying};
+ghost use Rattle.rules.specs.Rows.{sets, numbered, HasRow, HasChild, laid, parted, only, child, literals_of, count_of, denying};
 
 use terms::{OUT, SetVar};
 
@@ -43,11 +43,6 @@ pub fn span_of(kind: u8, split: bool) -> Span
             7 => Span { first: 12, end: 13 },
             11 => Span { first: 20, end: 21 },
             12 => Span { first: 20, end: 21 },
-            13 => Span { first: 25, end: 26 },
-            14 => Span { first: 26, end: 27 },
-            15 => Span { first: 27, end: 28 },
-            16 => Span { first: 28, end: 29 },
-            17 => Span { first: 29, end: 30 },
             _ => Span { first: 0, end: 0 },
         };
     }
@@ -63,15 +58,14 @@ pub fn span_of(kind: u8, split: bool) -> Span
         10 => Span { first: 16, end: 19 },
         11 => Span { first: 19, end: 20 },
         12 => Span { first: 19, end: 20 },
-        13 => Span { first: 21, end: 25 },
-        // negations
+        // kind 6
         _ => Span { first: 0, end: 0 },
     }
 }
 
-// Rules 5, 6, 8 to 11, 13 to 18 and 21 to 24, of sets a, b and c.
+// Rules 5, 6, 8 to 11 and 13 to 18, of sets a, b and c.
 pub fn row_of(rule: u8, a: SetVar, b: SetVar, c: SetVar) -> Row
-    requires { (forcing rule ≡ true) × LowSets a b c }
+    requires { HasRow rule a b }
     ensures { result ≡ laid (sets a b c) (numbered rule) }
 {
     let ina = Literal(a.0);
@@ -79,7 +73,6 @@ pub fn row_of(rule: u8, a: SetVar, b: SetVar, c: SetVar) -> Row
     let inc = Literal(c.0);
     let outa = Literal(OUT + a.0);
     let outb = Literal(OUT + b.0);
-    let outc = Literal(OUT + c.0);
     match rule {
         5 => Row(ina, ina, inb),
         6 => Row(inb, inb, ina),
@@ -92,34 +85,35 @@ pub fn row_of(rule: u8, a: SetVar, b: SetVar, c: SetVar) -> Row
         15 => Row(ina, ina, inb),
         16 => Row(inc, inc, ina),
         17 => Row(inc, inc, inb),
-        18 => Row(ina, inb, inc),
-        21 => Row(inc, inc, ina),
-        22 => Row(inc, inc, outb),
-        23 => Row(ina, outb, inc),
-        // rule 24
-        _ => Row(ina, outc, inb),
+        // rule 18
+        _ => Row(ina, inb, inc),
     }
 }
 
-// Whether a rule of a relation is a split: 12 or 25.
-pub fn splits(rule: u8) -> bool
-    ensures { result ≡ splitting rule }
+// Rule 12.
+pub fn split_of(a: SetVar, b: SetVar, c: SetVar) -> Split
+    ensures { result ≡ parted (sets a b c) (numbered 12) }
 {
-    match rule {
-        12 | 25 => true,
-        _ => false,
-    }
+    Split(Literal(c.0), a, b)
 }
 
-// Rules 12 and 25, of sets a, b and c.
-pub fn split_of(rule: u8, a: SetVar, b: SetVar, c: SetVar) -> Split
-    requires { splitting rule ≡ true }
-    ensures { result ≡ parted (sets a b c) (numbered rule) }
+// Rule 7.
+pub fn denial_of(a: SetVar, b: SetVar, c: SetVar) -> Denial
+    requires { (a.0 < most_sets) × (b.0 < most_sets) }
+    ensures { result ≡ denying (sets a b c) (numbered 7) }
+{
+    let x = Child(Literal(a.0), Literal(OUT + b.0), Literal(OUT + b.0));
+    let y = Child(Literal(OUT + a.0), Literal(b.0), Literal(b.0));
+    Denial(x, y, y)
+}
+
+// How many children a rule can have, any but 20.
+pub fn count_of(rule: u8) -> usize
+    ensures { result ≡ count_of rule }
 {
     match rule {
-        12 => Split(Literal(c.0), a, b),
-        // rule 25
-        _ => Split(Literal(a.0), b, c),
+        7 | 12 => 2,
+        _ => 1,
     }
 }
 
@@ -130,87 +124,24 @@ pub fn alone(l: Literal) -> Child
     Child(l, l, l)
 }
 
-// Whether a rule is a negation's: 7 or 26 to 29.
-fn negates(rule: u8) -> bool
-    ensures { result ≡ negating rule }
-{
-    match rule {
-        7 | 26..=29 => true,
-        _ => false,
-    }
-}
-
-// Rules 7 and 26 to 29, of sets a, b and c.
-pub fn denial_of(rule: u8, a: SetVar, b: SetVar, c: SetVar) -> Denial
-    requires { (negating rule ≡ true) × LowSets a b c }
-    ensures { result ≡ denying (sets a b c) (numbered rule) }
-{
-    let ina = Literal(a.0);
-    let inb = Literal(b.0);
-    let inc = Literal(c.0);
-    let outa = Literal(OUT + a.0);
-    let outb = Literal(OUT + b.0);
-    let outc = Literal(OUT + c.0);
-    match rule {
-        7 => {
-            let x = Child(ina, outb, outb);
-            let y = Child(outa, inb, inb);
-            Denial(x, y, y)
-        }
-        26 => {
-            let x = Child(inc, outa, outb);
-            let y = Child(ina, outc, outc);
-            let z = Child(inb, outc, outc);
-            Denial(x, y, z)
-        }
-        27 => {
-            let x = Child(ina, inb, inb);
-            Denial(x, x, x)
-        }
-        28 => {
-            let x = Child(ina, outb, outb);
-            Denial(x, x, x)
-        }
-        // rule 29
-        _ => {
-            let x = Child(inc, outa, outa);
-            let y = Child(inc, outb, outb);
-            let z = Child(ina, inb, outc);
-            Denial(x, y, z)
-        }
-    }
-}
-
-// How many children a rule can have, any but 20.
-pub fn count_of(rule: u8) -> usize
-    ensures { result ≡ count_of rule }
-{
-    match rule {
-        7 | 12 | 25 => 2,
-        26 | 29 => 3,
-        _ => 1,
-    }
-}
-
-// Child n of a rule with a row, of sets a, b and c.
+// Child n of a rule from 5 to 18, of sets a, b and c.
 pub fn child_of(rule: u8, a: SetVar, b: SetVar, c: SetVar, n: usize) -> Child
-    requires { HasChild rule n × LowSets a b c }
+    requires { HasChild rule a b n }
     ensures { result ≡ child (sets a b c) (literals_of rule n) }
 {
-    if splits(rule) {
-        let s = split_of(rule, a, b, c);
+    if rule == 7 {
+        let d = denial_of(a, b, c);
+        if n == 0 {
+            return d.0;
+        }
+        return d.1;
+    }
+    if rule == 12 {
+        let s = split_of(a, b, c);
         if n == 0 {
             return alone(Literal(s.1.0));
         }
         return Child(Literal(OUT + s.1.0), Literal(s.2.0), Literal(s.2.0));
-    }
-    if negates(rule) {
-        let d = denial_of(rule, a, b, c);
-        return match n {
-            0 => d.0,
-            1 => d.1,
-            _ => d.2,
-        };
     }
     alone(row_of(rule, a, b, c).2)
 }

@@ -4,7 +4,7 @@ use mathlib.Core.Bool.{Bool, true, false, not, and-true}
 use mathlib.Core.Option
 use mathlib.Core.Option.{some, map-eq-none_iff, map-eq-some_iff, none}
 use mathlib.Core.List.{List, map}
-use Prim.Native.Nat.{ℕ, ◌+◌, ◌-◌, ◌^◌, ◌/◌, ◌%◌, ◌<◌, ◌≤◌}
+use Prim.Native.Nat.{ℕ, ◌+◌, ◌-◌, ◌*◌, ◌^◌, ◌/◌, ◌%◌, ◌<◌, ◌≤◌}
 use native.Mathlib.Omega.{arith}
 use native.Mathlib.Decide.{ℕ_discrete}
 use lib.ListN.{length, get_or}
@@ -15,6 +15,7 @@ use borrow.Author.Tests.{eq-eqb, ne_eqb}
 use Rattle.calculus.specs.Limits.{most_sets, most_terms}
 use Rattle.calculus.specs.Lists.{up_from, first, bit}
 use Rattle.calculus.specs.Terms.{Term, term}
+use Rattle.calculus.specs.Relations.{equal, union, disjoint, subset, intersection}
 use Rattle.calculus.specs.Meaning as calculus
 use Rattle.calculus.specs.Branch.{Branch, walk, root_at}
 use Rattle.calculus.specs.Invariants.{Falls, ConstraintIn}
@@ -27,8 +28,7 @@ use Rattle.bits.proofs.Count.{lowest_set, below_lowest, bit_less, less_lt}
 use Rattle.problem.specs.declared.Totals.{Totals}
 use Rattle.problem.specs.Table.{Tabled, constraints_of, constraint_of, no_constraint, table_by}
 use Rattle.problem.proofs.Access.{opened_sizes, constraint_count}
-use Rattle.places.specs.Places.{span_of, InSpan, RuleOf, move_at, first_at}
-use Rattle.places.proofs.Spans.{no_propagation, no_split}
+use Rattle.places.specs.Places.{propagation_span, split_span, span_of, InSpan, RuleOf, move_at, first_at}
 use Rattle.places.proofs.Offered.{relation_19, position_root, position_of, rule_of}
 use Rattle.constraints.specs.declared.Constraint.{Constraint}
 use Rattle.constraints.specs.Decoded.{decoded, Unpacked}
@@ -45,10 +45,25 @@ use Rattle.marks.proofs.Offsets.{turn_of, entries_by}
 
 -- ---- rules of a constraint
 
+-- each span ends at no more than twice its first rule, so that none has rule 0
+spans : (l : calculus.Constraint) → ((propagation_span l).1 ≤ 2 * (propagation_span l).0) × ((split_span l).1 ≤ 2 * (split_span l).0)
+spans (calculus.member t A) = (omega arith, omega arith)
+spans (calculus.nonmember t A) = (omega arith, omega arith)
+spans (calculus.same t u) = (omega arith, omega arith)
+spans (calculus.different t u) = (omega arith, omega arith)
+spans (calculus.relation equal A B C) = (omega arith, omega arith)
+spans (calculus.relation union A B C) = (omega arith, omega arith)
+spans (calculus.relation disjoint A B C) = (omega arith, omega arith)
+spans (calculus.relation subset A B C) = (omega arith, omega arith)
+spans (calculus.relation intersection A B C) = (omega arith, omega arith)
+spans (calculus.negation k A B C w) = (omega arith, omega arith)
+spans (calculus.exactly A es) = (omega arith, omega arith)
+spans (calculus.interval A x y es) = (omega arith, omega arith)
+
 -- a propagation rule or a split is not rule 0
 not_0 : (split : Bool) (l : calculus.Constraint) (j : ℕ) → InSpan (span_of split l) j → ¬ (j ≡ 0)
-not_0 false = no_propagation 0 refl
-not_0 true = no_split 0 refl
+not_0 false l j h e = omega (arith, (spans l).0, h.0, h.1)
+not_0 true l j h e = omega (arith, (spans l).1, h.0, h.1)
 
 -- ---- the root concerned
 

@@ -3,7 +3,7 @@ use mathlib.Core.Path.{◌≡◌, refl, sym, ap, ◌∙◌, subst}
 use mathlib.Core.Bool.{Bool, true, false}
 use mathlib.Core.Option.{none, some}
 use mathlib.Core.List.{List, [], ◌∷◌, map}
-use Prim.Native.Nat.{ℕ, ◌<◌}
+use Prim.Native.Nat.{ℕ, ◌<◌, ◌≤◌}
 use native.Mathlib.Omega.{arith}
 use lib.ListN.{length, get_or, length-map}
 use borrow.Author.Tests.{eq-eqb, ne_eqb}
@@ -11,7 +11,8 @@ use Rattle.calculus.specs.Limits.{most_sets, most_terms}
 use Rattle.calculus.specs.Lists.{up_from, picked, Each, Some, here, there}
 use Rattle.calculus.specs.Terms.{term}
 use Rattle.calculus.specs.Relations.{applies}
-use Rattle.calculus.specs.Meaning.{Constraint}
+use Rattle.calculus.specs.Relations.{equal, union, disjoint, subset, intersection}
+use Rattle.calculus.specs.Meaning.{Constraint, member, nonmember, same, different, relation, negation, exactly, interval}
 use Rattle.calculus.specs.Branch as calculus
 use Rattle.calculus.specs.Search.{Candidate, candidates, step, next, children}
 use Rattle.calculus.specs.Invariants.{WellFormed, ConstraintIn, measure}
@@ -30,7 +31,6 @@ use Rattle.places.specs.Places.{RuleOf, InSpan, span_of, propagation_span, entri
 use Rattle.places.specs.Alternatives.{slots_of, child_of}
 use Rattle.places.proofs.Picking.{picked_among}
 use Rattle.places.proofs.Slots.{children_slots, move_rule, child_fit, propagation_slots}
-use Rattle.places.proofs.Spans.{no_propagation}
 use Rattle.places.proofs.Offered.{rule_of}
 use Rattle.search.specs.declared.Found.{Found}
 use Rattle.search.specs.First.{candidate_at, found, first_place_of, spot, Located, Finds}
@@ -179,12 +179,26 @@ module _ {bs : List ℕ} {tab : Table} {split : Bool} {b : Branch} {r : Found} (
 
 -- ---- a propagation step has one child, or none
 
+span_end : (l : Constraint) → (propagation_span l).1 ≤ 20
+span_end (member t A) = omega arith
+span_end (nonmember t A) = omega arith
+span_end (same t u) = omega arith
+span_end (different t u) = omega arith
+span_end (relation equal A B C) = omega arith
+span_end (relation union A B C) = omega arith
+span_end (relation disjoint A B C) = omega arith
+span_end (relation subset A B C) = omega arith
+span_end (relation intersection A B C) = omega arith
+span_end (negation k A B C w) = omega arith
+span_end (exactly A es) = omega arith
+span_end (interval A i j es) = omega arith
+
 module _ {bs : List ℕ} {tab : Table} {b : Branch} {r : Found} {q : ℕ} {es : List ℕ} (s : Taking bs tab false b r q es) where
   pub single : slots_of (decoded (map term es) r.constraint) r.rule ≡ 1
   single = propagation_slots (decoded (map term es) r.constraint) r.rule (subst (λ (x : Constraint). InSpan (propagation_span x) r.rule) (here_is s) s.located.within.of_rule)
 
   pub not_20 : ¬ (r.rule ≡ 20)
-  not_20 = no_propagation 20 refl (get_or (constraints_in bs tab) r.number no_constraint) r.rule s.located.within.of_rule
+  not_20 e = omega (arith, s.located.within.of_rule.1, span_end (get_or (constraints_in bs tab) r.number no_constraint))
 
   -- child 0 is there
   pub first_there : 0 < slots_of (decoded (map term es) r.constraint) r.rule

@@ -11,7 +11,8 @@ use lib.Dec.{leb}
 use lib.Count.{ones}
 use Rattle.calculus.specs.Lists.{up_from, picked}
 use Rattle.calculus.specs.Terms.{Term, term}
-use Rattle.calculus.specs.Meaning.{Constraint}
+use Rattle.calculus.specs.Relations.{equal, union, disjoint, subset, intersection}
+use Rattle.calculus.specs.Meaning.{Constraint, member, nonmember, same, different, relation, negation, exactly, interval}
 use Rattle.calculus.specs.Branch as calculus
 use Rattle.calculus.specs.Search.{step, next}
 use Rattle.calculus.specs.Forms.{record_length, record_of}
@@ -25,9 +26,8 @@ use Rattle.branch.proofs.Laws.{refusing}
 use Rattle.branch.proofs.Roots.{root_is}
 use Rattle.constraints.specs.declared.Constraint.{Constraint as Coded}
 use Rattle.constraints.specs.Decoded.{decoded, Handled, Unpacked}
-use Rattle.places.specs.Places.{entries_of}
+use Rattle.places.specs.Places.{InSpan, split_span, entries_of}
 use Rattle.places.specs.Alternatives.{slots_of, child_of}
-use Rattle.places.proofs.Spans.{no_split}
 use Rattle.places.proofs.Slots.{children_slots}
 use Rattle.search.specs.declared.Found.{Found}
 use Rattle.search.specs.First.{first_place_of}
@@ -71,7 +71,21 @@ outcome_fine bs tab budget b s t f q =
     subst (Fine tab.terms budget) (sym (q (remaining bs tab b) (omega arith)))
     (play_kept tab.terms budget s f (events bs tab (remaining bs tab b) (shown bs tab b)) (log_shaped tab.terms (constants bs tab) (constraints_in bs tab) (remaining bs tab b) (shown bs tab b))).fine
 
--- ---- a split is at a root, and each of its children is worked
+-- ---- a split is at a root
+
+split_not_19 : (l : Constraint) (j : ℕ) → InSpan (split_span l) j → ¬ (j ≡ 19)
+split_not_19 (member t A) j s e = omega (arith, s.1)
+split_not_19 (nonmember t A) j s e = omega (arith, s.1)
+split_not_19 (same t u) j s e = omega (arith, s.1)
+split_not_19 (different t u) j s e = omega (arith, s.1)
+split_not_19 (relation equal A B C) j s e = omega (arith, s.1)
+split_not_19 (relation union A B C) j s e = omega (arith, s.1)
+split_not_19 (relation disjoint A B C) j s e = omega (arith, s.1)
+split_not_19 (relation subset A B C) j s e = omega (arith, s.1)
+split_not_19 (relation intersection A B C) j s e = omega (arith, s.1)
+split_not_19 (negation k A B C w) j s e = omega (arith, s.1)
+split_not_19 (exactly A es) j s e = omega (arith, s.0)
+split_not_19 (interval A i k es) j s e = omega (arith, s.0)
 
 -- the entries of a constraint that is decoded are told by it
 unpacked_same : {bs : List ℕ} {i : ℕ} {es fs : List ℕ} {l : Coded} → Unpacked bs i es l → Unpacked bs i fs l → es ≡ fs
@@ -85,7 +99,7 @@ own_entries {l = l} h = ap (λ (ts : List Term). decoded ts l) (sym h.entries_ar
 
 module _ {bs : List ℕ} {tab : Table} {b : Branch} {r : Found} {q : ℕ} {es : List ℕ} (s : Taking bs tab true b r q es) where
   at_root : q ≡ r.root.0
-  at_root = ap (λ (t : Term). t.index) (sym (s.located.within.of_root (no_split 19 refl (placed bs tab r) r.rule s.located.within.of_rule)).1 ∙ s.located.concerns)
+  at_root = ap (λ (t : Term). t.index) (sym (s.located.within.of_root (split_not_19 (placed bs tab r) r.rule s.located.within.of_rule)).1 ∙ s.located.concerns)
 
   pub rooted : Taking bs tab true b r r.root.0 es
   rooted = subst (λ (p : ℕ). Taking bs tab true b r p es) at_root s

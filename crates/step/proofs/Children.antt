@@ -1,6 +1,6 @@
 -- The act of each constraint's child. All but two kinds assert the literals of a child, of one term (record Notes); a rule on sets takes them from its row by number.
 use mathlib.Core.Path.{◌≡◌, refl, sym, ap, ◌∙◌, subst, fun_ext}
-use mathlib.Core.Logic.{◌⊎◌, inl, inr}
+use mathlib.Core.Logic.{◌⊎◌, inl, inr, ⊎_elim}
 use mathlib.Core.Bool.{Bool, true, false, cond}
 use mathlib.Core.Option.{none}
 use mathlib.Core.List.{List, [], ◌∷◌, map}
@@ -11,20 +11,19 @@ use lib.Dec.{eqb, ltb}
 use borrow.Author.Tests.{eq-eqb, ne_eqb, ltb-true}
 use Rattle.calculus.specs.Limits.{most_sets, most_terms}
 use Rattle.calculus.specs.Terms.{Term, SetVar, term, set_var}
-use Rattle.calculus.specs.Relations.{Rule, Operand, Literal, negation_row, operand_of, propagation}
+use Rattle.calculus.specs.Relations.{Rule, Operand, Literal, Relation, operand_of, propagation}
 use Rattle.calculus.specs.Relations as R
 use Rattle.calculus.specs.Meaning as meaning
+use Rattle.calculus.specs.Meaning.{relation}
 use Rattle.calculus.specs.Branch.{Branch, root_at, root, In, Same, assert, assert_all}
-use Rattle.calculus.specs.Search.{Move, fact_of, at}
+use Rattle.calculus.specs.Search.{Move, fact_of}
 use Rattle.calculus.specs.Invariants.{Falls}
-use Rattle.calculus.proofs.Bools.{and_l, and_r, or_l, or_r, clash, each_all}
+use Rattle.calculus.proofs.Bools.{and_l, and_r, clash, each_all}
 use Rattle.calculus.proofs.Sequences.{each_at}
-use Rattle.calculus.proofs.Tables.{operand_each}
 use Rattle.branch.specs.Held.{root_of}
 use Rattle.branch.proofs.Roots.{root_is}
-use Rattle.places.specs.Places.{InSpan, RuleOf, row_of, list_move, move_at}
-use Rattle.places.specs.Alternatives.{among, count_of, slots_of, child_of}
-use Rattle.places.proofs.Offered.{negation_rule}
+use Rattle.places.specs.Places.{InSpan, RuleOf, list_move, move_at}
+use Rattle.places.specs.Alternatives.{slots_of, child_of}
 use Rattle.places.proofs.Slots.{in_spans, assert_one}
 use Rattle.branch.specs.Rows.{literal_count}
 use Rattle.constraints.specs.declared.Constraint.{Constraint}
@@ -33,15 +32,16 @@ use Rattle.constraints.specs.declared.Entries.{Entries}
 use Rattle.constraints.specs.declared.Entries.TheVariants.{Written, Interval}
 use Rattle.constraints.specs.declared.Relation.{Relation as CodedRelation}
 use Rattle.constraints.specs.declared.Negation.{Negation as CodedNegation}
+use Rattle.constraints.specs.declared.Negation.TheVariants.{Unequal}
 use Rattle.terms.specs.declared.SetVar.{SetVar as CodedSet}
 use Rattle.terms.specs.declared.Term.{Term as CodedTerm}
-use Rattle.constraints.specs.Decoded.{relation_of, negation_of, decoded, Handled}
+use Rattle.constraints.specs.Decoded.{relation_of, decoded, Handled}
 use Rattle.rules.specs.declared.Literal.{Literal as Lit}
 use Rattle.rules.specs.declared.Child.{Child}
-use Rattle.rules.specs.Rows.{numbered, literals_of, forcing, splitting, has_row, sets, LowSets, child, only, HasChild}
+use Rattle.rules.specs.Rows.{numbered, literals_of, count_of, sets, child, only, HasChild}
 use Rattle.fits.specs.Words.{LowChild}
 use Rattle.rules.proofs.Laying.{few, row_counts}
-use Rattle.fits.proofs.TableTests.{row_of_relation, denial_row, denial_rule}
+use Rattle.fits.proofs.TableTests.{row_of_relation}
 use Rattle.fits.proofs.FitLaws.{entries_below, root_own}
 use Rattle.step.specs.declared.Act.{Act}
 use Rattle.step.specs.declared.Act.TheVariants.{Close}
@@ -60,35 +60,20 @@ module _ (es : List ℕ) (l : Constraint) (h : Handled es l) (j : ℕ) where
   unfolding slots_of
   slots_other n = rw (ne_eqb j 20 n)
 
-pub count_low : (j : ℕ) → count_of j ≤ 3
-count_low j = go (among (7 ∷ 12 ∷ 25 ∷ []) j) (among (26 ∷ 29 ∷ []) j)
+pub count_low : (j : ℕ) → count_of j ≤ 2
+count_low j = go (eqb j 7) (eqb j 12)
   where
-    go : (x y : Bool) → cond x 2 (cond y 3 1) ≤ 3
+    go : (x y : Bool) → cond x 2 (cond y 2 1) ≤ 2
     go true y = omega arith
     go false true = omega arith
     go false false = omega arith
 
 -- ---- the rules of each kind
 
--- a rule on sets has a row r, the one of its number
-pub record OfRow (r : Rule Literal) (j : ℕ) : Type 0 where
-  pub is : r ≡ numbered j
-  pub row : has_row j ≡ true
+pub relation_range : (k : Relation) (x y z : SetVar) (j : ℕ) → RuleOf (relation k x y z) j → (5 ≤ j) × (j < 19)
+relation_range k x y z j r = let w = row_of_relation k x y z j r in (w.low, omega (arith, w.high))
 
--- a rule with a row is not one without
-pub is_not : {r : Rule Literal} {j : ℕ} → OfRow r j → (i : ℕ) → has_row i ≡ false → ¬ (j ≡ i)
-is_not S i n e = clash S.row (ap has_row e ∙ n)
-
-pub related_row : (k : CodedRelation) (A B C : CodedSet) (j : ℕ) → RuleOf (decoded [] (Related k A B C)) j → OfRow (row_of (relation_of k) j) j
-related_row k A B C j r = let w = row_of_relation (relation_of k) (set_var A.0) (set_var B.0) (set_var C.0) j r in record { is = w.is; row = w.row }
-
-pub negated_row : (k : CodedNegation) (A B C : CodedSet) (w : CodedTerm) (j : ℕ) → RuleOf (decoded [] (Negated k A B C w)) j → OfRow (negation_row (negation_of k)) j
-negated_row k A B C w j r =
-    let n : ℕ = (negation_row (negation_of k)).rule in
-    let e : j ≡ n = negation_rule (negation_of k) (set_var A.0) (set_var B.0) (set_var C.0) (term w.0) j r in
-    subst (OfRow (negation_row (negation_of k))) (sym e) record { is = sym (denial_row (negation_of k)); row = or_r (splitting n) (or_l (forcing n) (denial_rule (negation_of k))) }
-
--- a rule with one child that is neither 4 nor 20
+-- a rule with one child, of a row or of a literal; none of them is 4 or 20
 pub record Plain (j : ℕ) : Type 0 where
   pub not_20 : eqb j 20 ≡ false
   pub not_4 : eqb j 4 ≡ false
@@ -119,15 +104,22 @@ one_low e k = subst LowChild (sym e) (k, k, k)
 
 -- ---- a child of a rule on sets
 
+negation_rule : {ps es : List ℕ} {j q h : ℕ} {k : CodedNegation} {A B C : CodedSet} {w : CodedTerm} → Placed ps es (Negated k A B C w) j q h → j ≡ 7
+negation_rule P = ⊎_elim (λ w. omega arith) (λ w. omega arith) P.ruled
+
 module _ {ps es : List ℕ} {j q h c : ℕ} where
-  row_there : (l : Constraint) → Placed ps es l j q h → {r : Rule Literal} → OfRow r j → c < slots_of (decoded (map term es) l) j → HasChild j c
-  row_there l P S n = record { row = S.row; there = subst (λ (m : ℕ). c < m) (slots_other es l P.handled j (is_not S 20 refl) ∙ (row_counts j S.row).count) n }
+  row_there : (l : Constraint) → Placed ps es l j q h → 5 ≤ j → j < 19 → c < slots_of (decoded (map term es) l) j → c < length (numbered j).alternatives
+  row_there l P x y n = subst (λ (m : ℕ). c < m) (slots_other es l P.handled j (λ e. omega arith) ∙ (row_counts j x y).0) n
 
-  pub related_child : {k : CodedRelation} {A B C : CodedSet} → Placed ps es (Related k A B C) j q h → c < slots_of (decoded (map term es) (Related k A B C)) j → HasChild j c × LowSets A B C
-  related_child {k} {A} {B} {C} P n = (row_there (Related k A B C) P (related_row k A B C j P.ruled) n, P.handled.in_range)
+  pub related_child : {k : CodedRelation} {A B C : CodedSet} → Placed ps es (Related k A B C) j q h → c < slots_of (decoded (map term es) (Related k A B C)) j → HasChild j A B c
+  related_child {k} {A} {B} {C} P n =
+      let r = relation_range (relation_of k) (set_var A.0) (set_var B.0) (set_var C.0) j P.ruled in
+      record { low = r.0; high = omega (arith, r.1); first_set = P.handled.in_range.0; second_set = P.handled.in_range.1; there = row_there (Related k A B C) P r.0 r.1 n }
 
-  pub negated_child : {k : CodedNegation} {A B C : CodedSet} {w : CodedTerm} → Placed ps es (Negated k A B C w) j q h → c < slots_of (decoded (map term es) (Negated k A B C w)) j → HasChild j c × LowSets A B C
-  negated_child {k} {A} {B} {C} {w} P n = (row_there (Negated k A B C w) P (negated_row k A B C w j P.ruled) n, P.handled.in_range.0)
+  pub negated_child : {k : CodedNegation} {A B C : CodedSet} {w : CodedTerm} → Placed ps es (Negated k A B C w) j q h → c < slots_of (decoded (map term es) (Negated k A B C w)) j → HasChild j A B c
+  negated_child {k} {A} {B} {C} {w} P n =
+      let e = negation_rule P in
+      record { low = omega arith; high = omega arith; first_set = P.handled.in_range.0.0; second_set = P.handled.in_range.0.1; there = row_there (Negated k A B C w) P (omega arith) (omega arith) n }
 
 -- ---- the acts of rule j at position q, that concern root h; r is the root that the code finds
 
@@ -162,17 +154,22 @@ module _ (ps : List ℕ) (fall : Falls ps) (j h c : ℕ) (r : CodedTerm) (own : 
         notes_acts m t (λ _. A) ((o ∷ []) ∷ []) record { low = lt; at = at; bounded = λ _. la; not_20 = pl.not_20; not_4 = pl.not_4; small = rw z; offers = f } x (rw z e)
 
     -- of a rule on sets, by its row
-    row_acts : (m : Constraint) (A B C : CodedSet) (o : Rule Literal) → OfRow o j → HasChild j c × LowSets A B C → (t : ℕ) → t < most_terms → r.0 ≡ root_of ps t → ((b : Branch) → (move_at b (decoded (map term es) m) j q).1 ≡ at (term t) (operand_of (set_var A.0) (set_var B.0) (set_var C.0)) o) → (x : Child) → x ≡ child (sets A B C) (literals_of j c) → Acts ps (decoded (map term es) m) j q c (note_of r x)
-    row_acts m A B C o S H t lt at_root f x e = notes_acts m t (operand_of (set_var A.0) (set_var B.0) (set_var C.0)) (numbered j).alternatives record {
+    row_acts : (m : Constraint) (A B C : CodedSet) → Placed ps es m j q h → HasChild j A B c → C.0 < most_sets → (t : ℕ) → t < most_terms → r.0 ≡ root_of ps t → ((b : Branch) → b.parents ≡ ps → (move_at b (decoded (map term es) m) j q).1.alternatives ≡ map (map (fact_of (term t) (operand_of (set_var A.0) (set_var B.0) (set_var C.0)))) (numbered j).alternatives) → (x : Child) → x ≡ child (sets A B C) (literals_of j c) → Acts ps (decoded (map term es) m) j q c (note_of r x)
+    row_acts m A B C P H lc t lt at f x e = notes_acts m t (operand_of (set_var A.0) (set_var B.0) (set_var C.0)) (numbered j).alternatives record {
       low = lt;
-      at = at_root;
-      bounded = operand_each (λ (X : SetVar). X.index < most_sets) H.1;
-      not_20 = ne_eqb j 20 (is_not S 20 refl);
-      not_4 = ne_eqb j 4 (is_not S 4 refl);
-      small = each_at (λ (xs : List Literal). few xs ≡ true) (numbered j).alternatives [] (each_all few (numbered j).alternatives (row_counts j S.row).small) c H.0.there;
-      offers = λ b _. ap (λ (w : Move). w.alternatives) (f b) ∙ ap (λ (w : Rule Literal). (at (term t) (operand_of (set_var A.0) (set_var B.0) (set_var C.0)) w).alternatives) S.is;
+      at = at;
+      bounded = bounds;
+      not_20 = ne_eqb j 20 (λ w. omega (arith, H.high));
+      not_4 = ne_eqb j 4 (λ w. omega (arith, H.low));
+      small = each_at (λ (xs : List Literal). few xs ≡ true) (numbered j).alternatives [] (each_all few (numbered j).alternatives (row_counts j H.low (omega (arith, H.high))).1) c H.there;
+      offers = f;
     } x (e ∙ ap (λ (s : Operand → ℕ). child s (literals_of j c)) (fun_ext same))
       where
+        bounds : (o : Operand) → (operand_of (set_var A.0) (set_var B.0) (set_var C.0) o).index < most_sets
+        bounds R.A = H.first_set
+        bounds R.B = H.second_set
+        bounds R.C = lc
+
         same : (o : Operand) → sets A B C o ≡ (operand_of (set_var A.0) (set_var B.0) (set_var C.0) o).index
         same R.A = refl
         same R.B = refl
@@ -192,10 +189,11 @@ module _ (ps : List ℕ) (fall : Falls ps) (j h c : ℕ) (r : CodedTerm) (own : 
   nonmember_acts t A x e es q P n = one_acts es q (Nonmember t A) P n t.0 P.handled.in_range.0 (its_root t.0 P.concerns) (set_var A.0) P.handled.in_range.1 (in_spans Plain (2, 3) (0, 0) (record { not_20 = refl; not_4 = refl; once = refl }, tt) tt j P.ruled) (R.Out R.A) (λ b _. refl) x e
 
   pub related_acts : (k : CodedRelation) (A B C : CodedSet) (x : Child) → x ≡ child (sets A B C) (literals_of j c) → ActsFor ps (Related k A B C) j h c (note_of r x)
-  related_acts k A B C x e es q P n = row_acts es q (Related k A B C) A B C _ (related_row k A B C j P.ruled) (related_child P n) q (omega (arith, P.concerns, P.low)) (own ∙ ap (root_of ps) (sym P.concerns)) (λ b. refl) x e
+  related_acts k A B C x e es q P n = row_acts es q (Related k A B C) A B C P (related_child P n) P.handled.in_range.2 q (omega (arith, P.concerns, P.low)) (own ∙ ap (root_of ps) (sym P.concerns))
+      (λ b _. ap (λ (w : Rule Literal). map (map (fact_of (term q) (operand_of (set_var A.0) (set_var B.0) (set_var C.0)))) w.alternatives) (row_of_relation (relation_of k) (set_var A.0) (set_var B.0) (set_var C.0) j P.ruled).is) x e
 
   pub negated_acts : (k : CodedNegation) (A B C : CodedSet) (v : CodedTerm) (x : Child) → x ≡ child (sets A B C) (literals_of j c) → ActsFor ps (Negated k A B C v) j h c (note_of r x)
-  negated_acts k A B C v x e es q P n = row_acts es q (Negated k A B C v) A B C _ (negated_row k A B C v j P.ruled) (negated_child P n) v.0 P.handled.in_range.1 (its_root v.0 P.concerns) (λ b. refl) x e
+  negated_acts Unequal A B C v x e es q P n = row_acts es q (Negated Unequal A B C v) A B C P (negated_child P n) P.handled.in_range.0.2 v.0 P.handled.in_range.1 (its_root v.0 P.concerns) (λ b _. rw (negation_rule P)) x e
 
   pub listed_acts : ¬ (j ≡ 20) → (k : Entries) (A : CodedSet) (x : Child) → x ≡ child (λ _. A.0) (R.In R.A ∷ []) → ActsFor ps (Listed k A) j h c (note_of r x)
   listed_acts n20 Written A x e es q P n = entry_acts es q (Listed Written A) P n A P.handled.in_range.0 (entry_rule j P.ruled n20) (λ b. refl) x e

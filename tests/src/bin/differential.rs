@@ -8,9 +8,9 @@
 
 use separate::answer;
 use separate::check::{check, Setting};
-use separate::coverage::{is_split, kinds, Coverage};
+use separate::coverage::{kinds, Coverage};
 use separate::ffi;
-use separate::generate::{self, Draft, Drawn, Plan, Rng, KINDS};
+use separate::generate::{self, Draft, Drawn, Plan, Rng};
 use separate::sheet::{Sheet, MAX_BYTES};
 use separate::solver;
 use std::process::exit;
@@ -33,6 +33,10 @@ struct Counts {
 
 fn hex(bytes: &[u8]) -> String {
     bytes.iter().map(|byte| format!("{byte:02X} ")).collect::<String>().trim_end().to_string()
+}
+
+fn is_split(rule: u8) -> bool {
+    matches!(rule, 7 | 12 | 20)
 }
 
 /// One run of both, on buffers of these lengths. Ends the program if they
@@ -106,7 +110,6 @@ fn compare(problem: &[u8], budget: u64, room: usize, traced: usize, rng: &mut Rn
         with("budget whose fourfold is past 64 bits", number == 12 && fourfold.is_none());
         with("trace buffer one byte short", number == 13 && fourfold == Some(traced as u64 + 1));
         coverage.see_number("runs refused by", number);
-        coverage.refusal(problem, number);
     } else {
         with("budget 0", budget == 0);
         with("budget 1", budget == 1);
@@ -171,8 +174,8 @@ fn judge(problem: &[u8], drawn: &Drawn, word: u64, forms: &[u8], rng: &mut Rng, 
     // The plan holds: make one constraint untrue of it, and at times a second.
     let all: Vec<usize> = (0..sheet.lines.len()).collect();
     let few = [rng.below(all.len()), rng.below(all.len())];
-    for &at in if rng.percent(15) { &all[..] } else { &few } {
-        let kind = rng.between(1, KINDS) as u8;
+    for &at in if rng.percent(10) { &all[..] } else { &few } {
+        let kind = 1 + rng.below(12) as u8;
         let Some(mut draft) = generate::untrue_at(rng, drawn, at, kind) else { continue };
         if rng.percent(30) {
             let other = rng.below(all.len());
@@ -212,11 +215,6 @@ fn compare_check(problem: &[u8], setting: &[u8], rng: &mut Rng, counts: &mut Cou
         coverage.see_number("checks refused by", number);
         return mine;
     };
-    if mine == answer::HOLDS {
-        for kind in kinds(problem, &sheet) {
-            coverage.see_number("assignments that hold, of kind", kind);
-        }
-    }
     if let Some(setting) = Setting::read(&sheet, setting) {
         let values = || setting.values.iter().chain(setting.sets.iter().flatten());
         coverage.see_if("assignments", "HOLDS", mine == answer::HOLDS);
@@ -294,11 +292,8 @@ fn main() {
             }
         }
 
-        // How many steps and what room the whole run takes, by this solver. If
-        // it is to be short, no problem of 1,000 steps is looked at further.
-        let mut children = Vec::new();
-        let most = if short { 1000 } else { 10_000 };
-        let whole = solver::run_with(&problem, most, &mut wide_forms, &mut wide_trace, &mut children);
+        // How many steps and what room the whole run takes, by this solver.
+        let whole = solver::run(&problem, 10_000, &mut wide_forms, &mut wide_trace);
         let steps = answer::steps(whole);
         let Ok(sheet) = Sheet::read(&problem) else {
             // Refused: budgets and buffers of all sorts change nothing.
@@ -398,9 +393,6 @@ fn main() {
         }
         counts.coverage.problem(&problem, &sheet);
         counts.coverage.steps(&problem, &sheet, &records, listed > 0);
-        if ended {
-            counts.coverage.children(&children);
-        }
 
         // The same problem with faults at its end, or two anywhere.
         for _ in 0..3 {

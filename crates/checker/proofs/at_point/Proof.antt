@@ -1,7 +1,7 @@
 -- `at_point` meets its contract: each arm is its relation's test at one value. Two Booleans are equal exactly if each implies the other.
 use mathlib.Core.Path.{refl}
-use mathlib.Core.Bool.{◌&&◌, ◌||◌, not}
-use Rattle.constraints.specs.declared.Relation.TheVariants.{Equal, Union, Disjoint, Subset, Intersection, Difference}
+use mathlib.Core.Bool.{◌&&◌, ◌||◌}
+use Rattle.constraints.specs.declared.Relation.TheVariants.{Equal, Union, Disjoint, Subset, Intersection}
 use Rattle.checker.proofs.Testing.{both_ways, one_way, of_relation}
 use borrow.Author.Rules.{rules}
 use Rattle.checker.proofs.at_point.Statement.{statement}
@@ -21,9 +21,6 @@ enum-told-4 c = search rules
 
 enum-told-5 : tie.Need-enum-told-5
 enum-told-5 c = search rules
-
-enum-told-6 : tie.Need-enum-told-6
-enum-told-6 c = search rules
 
 returns : tie.Need-returns
 returns c =
@@ -50,11 +47,6 @@ returns-5 c =
     let s = c.before.before.args in
     of_relation Intersection s.a s.b s.c _ _ c.enum-told5.given.1 (both_ways s.c (s.a && s.b))
 
-returns-6 : tie.Need-returns-6
-returns-6 c =
-    let s = c.before.before.args in
-    of_relation Difference s.a s.b s.c _ _ c.enum-told6.given.1 (both_ways s.c (s.a && not s.b))
-
 pub at_point_spec : {M : Type 1} → statement M
 at_point_spec =
     tie.close
@@ -64,10 +56,8 @@ at_point_spec =
     enum-told-3
     enum-told-4
     enum-told-5
-    enum-told-6
     returns
     returns-2
     returns-3
     returns-4
-    returns-5
-    returns-6)
+    returns-5)

@@ -1,10 +1,11 @@
 -- `holds` meets its contract: each arm is the test of its kind of constraint. A problem's constraints name only terms and sets that it has, so their values and members are there.
 use borrow.Author.Rules.{rules}
-use mathlib.Core.Path.{refl, ap, ◌∙◌}
+use mathlib.Core.Path.{ap, ◌∙◌}
 use mathlib.Core.Bool.{not}
 use Rattle.calculus.specs.Relations.{denies}
+use Rattle.calculus.specs.Reading.{words}
 use Rattle.constraints.specs.Decoded.{relation_of, negation_of}
-use Rattle.checker.proofs.Holding.{readable, members_in, named, known_test, list_readable, member_test, same_test, relates_test, list_test}
+use Rattle.checker.proofs.Holding.{same_set, readable, members_in, named, known_test, list_readable, member_test, same_test, relates_test, negated_relates, list_test}
 use Rattle.checker.proofs.holds.Statement.{statement}
 use Rattle.checker.proofs.holds.Tie as tie
 use Rattle.checker.proofs.holds.Reads as reads
@@ -118,10 +119,8 @@ members-requires-7 c κs =
 members-requires-8 : tie.Need-members-requires-8
 members-requires-8 c κs =
     let q = c.before.before.before.before.before.before.before.before.before.before.requires in
-    members_in _ _ q.0 _ _ q.3 _ (named _ _ q.0 _ _ q.3 _ q.2 _ _ c.before.before.before.before.before.entries-of.ensures _ c.before.before.before.l6.given.1).2
-
-denies-requires : tie.Need-denies-requires
-denies-requires c κs = search rules
+    let r = named _ _ q.0 _ _ q.3 _ q.2 _ _ c.before.before.before.before.before.entries-of.ensures _ c.before.before.before.l6.given.1 in
+    members_in _ _ q.0 _ _ q.3 _ (same_set r.2 r.0)
 
 relates-requires-2 : tie.Need-relates-requires-2
 relates-requires-2 c κs = search rules
@@ -182,16 +181,16 @@ returns-5 c =
     let a = s.args in
     let k = c.before.before.before.before.before.l5.given in
     known_test _ _ q.0 _ _ q.3 _ q.2 _ _ c.before.before.before.before.before.before.before.entries-of.ensures _ k.1 _ _
-    (relates_test a.problem.now a.tab a.assignment.now a.at _ _ (relation_of k.0.0) refl _ _ _ k.0.1.0.0 k.0.1.1.0.0 k.0.1.1.1.0.0 c.before.before.before.members3.ensures c.before.before.members4.ensures c.before.members5.ensures c.relates.ensures)
+    (relates_test a.problem.now a.tab a.assignment.now a.at _ (relation_of k.0.0) _ _ _ k.0.1.0.0 k.0.1.1.0.0 k.0.1.1.1.0.0 c.before.before.before.members3.ensures c.before.before.members4.ensures c.before.members5.ensures c.relates.ensures)
 
 returns-6 : tie.Need-returns-6
 returns-6 c =
-    let s = c.before.before.before.before.before.before.before.before.before.before.before.before.before in
+    let s = c.before.before.before.before.before.before.before.before.before.before.before.before in
     let q = s.requires in
     let a = s.args in
-    let k = c.before.before.before.before.before.before.l6.given in
-    known_test _ _ q.0 _ _ q.3 _ q.2 _ _ c.before.before.before.before.before.before.before.before.entries-of.ensures _ k.1 _ _
-    (ap not (relates_test a.problem.now a.tab a.assignment.now a.at _ _ (denies (negation_of k.0.0)) c.before.denies.ensures _ _ _ k.0.1.0.0 k.0.1.1.0.0 k.0.1.1.1.0.0 c.before.before.before.before.members6.ensures c.before.before.before.members7.ensures c.before.before.members8.ensures c.relates2.ensures))
+    let k = c.before.before.before.before.before.l6.given in
+    known_test _ _ q.0 _ _ q.3 _ q.2 _ _ c.before.before.before.before.before.before.before.entries-of.ensures _ k.1 _ _
+    (ap not (relates_test a.problem.now a.tab a.assignment.now a.at _ (denies (negation_of k.0.0)) _ _ _ k.0.1.0.0 k.0.1.1.0.0 k.0.1.1.1.0.0 c.before.before.before.members6.ensures c.before.before.members7.ensures c.before.members8.ensures (negated_relates k.0.0 _ (words c.before.before.before.members6.result.now) (words c.before.before.members7.result.now) (words c.before.members8.result.now) c.relates2.ensures)))
 
 returns-7 : tie.Need-returns-7
 returns-7 c =
@@ -231,7 +230,6 @@ holds_spec =
     members-requires-6
     members-requires-7
     members-requires-8
-    denies-requires
     relates-requires-2
     enum-known-l-7
     members-requires-9

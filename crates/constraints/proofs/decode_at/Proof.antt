@@ -1,4 +1,5 @@
--- `decode_at` meets its contract: each arm is the constraint of its kind over the bytes that follow the kind byte. A problem's kinds are 1 to 17, so the last arm is kind 17's.
+-- `decode_at` meets its contract: each arm is the constraint of its kind over the bytes that follow the kind byte. A problem's kinds are 1 to 12, so the last arm is kind 12's.
+use mathlib.Core.Logic.{inl, inr}
 use native.Mathlib.Omega.{arith}
 use Rattle.constraints.proofs.Decoding.{two_operands, third_operand, last_kind, reads_as}
 use Rattle.constraints.proofs.decode_at.Statement.{statement}
@@ -29,37 +30,19 @@ add-t34 : tie.Need-overflow-add-t34
 add-t34 c = omega (arith, two_operands _ _ _ (start c.before).requires.0)
 
 shared-slice-read-t36 : tie.Need-shared-slice-read-t36
-shared-slice-read-t36 c = third_operand _ _ _ (start c.before.before).requires.0 7 c.before.match.keys7 tt
+shared-slice-read-t36 c = third_operand _ _ _ (start c.before.before).requires.0 (inl c.before.match.keys7)
 
 add-t49 : tie.Need-overflow-add-t49
 add-t49 c = omega (arith, two_operands _ _ _ (start c.before).requires.0)
 
 shared-slice-read-t51 : tie.Need-shared-slice-read-t51
-shared-slice-read-t51 c = third_operand _ _ _ (start c.before.before).requires.0 10 c.before.match.keys10 tt
+shared-slice-read-t51 c = third_operand _ _ _ (start c.before.before).requires.0 (inr (inl c.before.match.keys10))
 
 add-t56 : tie.Need-overflow-add-t56
 add-t56 c = omega (arith, two_operands _ _ _ (start c.before).requires.0)
 
 shared-slice-read-t58 : tie.Need-shared-slice-read-t58
-shared-slice-read-t58 c = third_operand _ _ _ (start c.before.before).requires.0 12 c.before.match.keys12 tt
-
-add-t65 : tie.Need-overflow-add-t65
-add-t65 c = omega (arith, two_operands _ _ _ (start c.before).requires.0)
-
-shared-slice-read-t67 : tie.Need-shared-slice-read-t67
-shared-slice-read-t67 c = third_operand _ _ _ (start c.before.before).requires.0 13 c.before.match.keys13 tt
-
-add-t72 : tie.Need-overflow-add-t72
-add-t72 c = omega (arith, two_operands _ _ _ (start c.before).requires.0)
-
-shared-slice-read-t74 : tie.Need-shared-slice-read-t74
-shared-slice-read-t74 c = third_operand _ _ _ (start c.before.before).requires.0 14 c.before.match.keys14 tt
-
-add-t90 : tie.Need-overflow-add-t90
-add-t90 c = omega (arith, two_operands _ _ _ (start c.before).requires.0)
-
-shared-slice-read-t92 : tie.Need-shared-slice-read-t92
-shared-slice-read-t92 c = let s = start c.before.before in third_operand _ _ _ s.pre.0 17 (last_kind _ _ _ s.pre.0 c.before.match.rest) tt
+shared-slice-read-t58 c = let s = start c.before.before in third_operand _ _ _ s.pre.0 (inr (inr (last_kind _ _ _ s.pre.0 c.before.match.rest)))
 
 -- ---- the arms
 
@@ -97,22 +80,7 @@ returns-11 : tie.Need-returns-11
 returns-11 c = let s = start c.before in reads_as _ _ _ s.pre.0 _ s.pre.1 11 c.match.keys11
 
 returns-12 : tie.Need-returns-12
-returns-12 c = let s = start c.before.before in reads_as _ _ _ s.pre.0 _ s.pre.1 12 c.before.match.keys12
-
-returns-13 : tie.Need-returns-13
-returns-13 c = let s = start c.before.before in reads_as _ _ _ s.pre.0 _ s.pre.1 13 c.before.match.keys13
-
-returns-14 : tie.Need-returns-14
-returns-14 c = let s = start c.before.before in reads_as _ _ _ s.pre.0 _ s.pre.1 14 c.before.match.keys14
-
-returns-15 : tie.Need-returns-15
-returns-15 c = let s = start c.before in reads_as _ _ _ s.pre.0 _ s.pre.1 15 c.match.keys15
-
-returns-16 : tie.Need-returns-16
-returns-16 c = let s = start c.before in reads_as _ _ _ s.pre.0 _ s.pre.1 16 c.match.keys16
-
-returns-17 : tie.Need-returns-17
-returns-17 c = let s = start c.before.before in reads_as _ _ _ s.pre.0 _ s.pre.1 17 (last_kind _ _ _ s.pre.0 c.before.match.rest)
+returns-12 c = let s = start c.before.before in reads_as _ _ _ s.pre.0 _ s.pre.1 12 (last_kind _ _ _ s.pre.0 c.before.match.rest)
 
 pub decode_at_spec : {M : Type 1} → statement M
 decode_at_spec =
@@ -129,12 +97,6 @@ decode_at_spec =
     shared-slice-read-t51
     add-t56
     shared-slice-read-t58
-    add-t65
-    shared-slice-read-t67
-    add-t72
-    shared-slice-read-t74
-    add-t90
-    shared-slice-read-t92
     returns
     returns-2
     returns-3
@@ -146,9 +108,4 @@ decode_at_spec =
     returns-9
     returns-10
     returns-11
-    returns-12
-    returns-13
-    returns-14
-    returns-15
-    returns-16
-    returns-17)
+    returns-12)

@@ -1,11 +1,11 @@
 -- `fitting` meets its contract. Each arm says which word it makes (IsWord, in FitLaws); that such a word fits is `fits-right`. In each need s is the start, r the bounds of the operands.
-use mathlib.Core.Path.{sym, ◌∙◌, subst}
+use mathlib.Core.Path.{sym, subst}
 use native.Mathlib.Omega.{arith}
 use borrow.Author.Rules.{rules}
 use Rattle.constraints.proofs.Decoding.{list_set}
 use Rattle.rules.specs.Rows.{numbered}
 use Rattle.fits.specs.Words.{LowRow, LowSplit, LowDenial}
-use Rattle.fits.proofs.FitLaws.{in_range, fits_right, forced_word_is, divided_word_is, denied_number, denied_word_is, related_number}
+use Rattle.fits.proofs.FitLaws.{in_range, fits_right, forced_word_is, divided_word_is, denied_word_is, related_number}
 use Rattle.fits.proofs.RowBits.{laid_low, parted_low, denying_low}
 use Rattle.fits.proofs.fitting.Statement.{statement}
 use Rattle.fits.proofs.fitting.Tie as tie
@@ -13,10 +13,6 @@ use Rattle.fits.proofs.fitting.Tie as tie
 -- the start, from where the arms part
 abbrev start : tie.After-shared-slice-known3 → tie.Start
 start c = c.before.before.before
-
--- and from where a relation's rule is known to be a split or not
-abbrev related : tie.After-splits → tie.Start
-related c = start c.before.before.before.before
 
 root-requires : tie.Need-root-requires
 root-requires c κs = let s = start c.before.before.before in let r = in_range c.before.l.given.1 s.pre.1 in (r.0, s.pre.0.rooted)
@@ -42,32 +38,26 @@ root-requires-4 c κs = let s = start c.before.before.before.before.before in le
 together-requires : tie.Need-together-requires
 together-requires c κs = let s = start c.before.before.before in let r = in_range c.before.l4.given.1 s.pre.1 in (r.0, r.1, s.pre.0.rooted)
 
-split-of-requires : tie.Need-split-of-requires
-split-of-requires c κs = sym c.before.splits.ensures ∙ c.if1.true
-
 divided-requires : tie.Need-divided-requires
-divided-requires c κs = let s = related c.before.before in let r = in_range c.before.before.before.before.l5.given.1 s.pre.1 in (s.pre.0.long, subst LowSplit (sym c.split-of.ensures) (parted_low _ _ _ r (numbered s.args.rule)))
+divided-requires c κs = let s = start c.before.before.before.before.before in let r = in_range c.before.before.before.l5.given.1 s.pre.1 in (s.pre.0.long, subst LowSplit (sym c.split-of.ensures) (parted_low _ _ _ r (numbered 12)))
 
 row-of-requires : tie.Need-row-of-requires
-row-of-requires c κs = let s = related c.before in let l = c.before.before.before.l5.given.1 in (related_number l s.pre.1 (sym c.before.splits.ensures ∙ c.if1.false), in_range l s.pre.1)
+row-of-requires c κs = related_number c.before.before.l5.given.1 (start c.before.before.before.before).requires.1 c.if1.false
 
 forced-requires : tie.Need-forced-requires
-forced-requires c κs = let s = related c.before.before in let r = in_range c.before.before.before.before.l5.given.1 s.pre.1 in (s.pre.0.long, subst LowRow (sym c.row_of_relation.ensures) (laid_low _ _ _ r (numbered s.args.rule)))
+forced-requires c κs = let s = start c.before.before.before.before.before in let r = in_range c.before.before.before.l5.given.1 s.pre.1 in (s.pre.0.long, subst LowRow (sym c.row_of_relation.ensures) (laid_low _ _ _ r (numbered s.args.rule)))
 
 denial-of-requires : tie.Need-denial-of-requires
-denial-of-requires c κs = let s = start c.before.before.before in let l = c.before.l6.given.1 in (denied_number l s.pre.1, (in_range l s.pre.1).0)
+denial-of-requires c κs = let s = start c.before.before.before in let r = in_range c.before.l6.given.1 s.pre.1 in (r.0.0, r.0.1)
 
 denied-requires : tie.Need-denied-requires
-denied-requires c κs = let s = start c.before.before.before.before in let r = in_range c.before.before.l6.given.1 s.pre.1 in (r.1, s.pre.0, subst LowDenial (sym c.denial-of.ensures) (denying_low _ _ _ r.0 (numbered s.args.rule)))
+denied-requires c κs = let s = start c.before.before.before.before in let r = in_range c.before.before.l6.given.1 s.pre.1 in (r.1, s.pre.0, subst LowDenial (sym c.denial-of.ensures) (denying_low _ _ _ r.0 (numbered 7)))
 
 by-entries-requires : tie.Need-by-entries-requires
 by-entries-requires c κs = let s = start c.before.before.before in (s.pre.0, s.pre.1.entries, list_set _ c.before.l7.given.1 s.pre.1.handled.in_range)
 
 returns : tie.Need-returns
-returns c =
-    let t = c.before.before.before in
-    let s = related t in
-    fits_right t.before.before.l5.given.1 s.pre.1 _ _ s.pre.0 _ (divided_word_is t.before.before.l5.given.1 _ s.args.rule _ (sym t.splits.ensures ∙ c.before.before.if1.true) _ c.before.split-of.ensures c.divided.ensures)
+returns c = let s = start c.before.before.before.before.before.before in fits_right c.before.before.before.before.l5.given.1 s.pre.1 _ _ s.pre.0 _ (divided_word_is _ _ _ _ _ _ c.before.before.if1.true _ c.before.split-of.ensures c.divided.ensures)
 
 returns-2 : tie.Need-returns-2
 returns-2 c = let s = start c.before.before.before.before.before.before in fits_right c.before.before.before.before.l.given.1 s.pre.1 _ _ s.pre.0 _ (cc)
@@ -82,16 +72,10 @@ returns-5 : tie.Need-returns-5
 returns-5 c = let s = start c.before.before.before.before in fits_right c.before.before.l4.given.1 s.pre.1 _ _ s.pre.0 _ c.together.ensures
 
 returns-6 : tie.Need-returns-6
-returns-6 c =
-    let t = c.before.before.before in
-    let s = related t in
-    fits_right t.before.before.l5.given.1 s.pre.1 _ _ s.pre.0 _ (forced_word_is t.before.before.l5.given.1 _ s.args.rule _ (sym t.splits.ensures ∙ c.before.before.if1.false) _ c.before.row_of_relation.ensures c.forced.ensures)
+returns-6 c = let s = start c.before.before.before.before.before.before in fits_right c.before.before.before.before.l5.given.1 s.pre.1 _ _ s.pre.0 _ (forced_word_is _ _ _ _ _ _ c.before.before.if1.false _ c.before.row_of_relation.ensures c.forced.ensures)
 
 returns-7 : tie.Need-returns-7
-returns-7 c =
-    let s = start c.before.before.before.before.before in
-    let l = c.before.before.before.l6.given.1 in
-    fits_right l s.pre.1 _ _ s.pre.0 _ (denied_word_is l s.pre.1 _ _ _ _ c.before.denial-of.ensures c.denied.ensures)
+returns-7 c = let s = start c.before.before.before.before.before in fits_right c.before.before.before.l6.given.1 s.pre.1 _ _ s.pre.0 _ (denied_word_is c.before.before.before.l6.given.1 _ _ _ _ c.before.denial-of.ensures c.denied.ensures)
 
 returns-8 : tie.Need-returns-8
 returns-8 c = let s = start c.before.before.before.before in fits_right c.before.before.l7.given.1 s.pre.1 _ _ s.pre.0 _ c.by_entries.ensures
@@ -118,7 +102,6 @@ fitting_spec =
     together-requires
     (λ c. search rules)
     (λ c κs. search rules)
-    split-of-requires
     divided-requires
     returns
     row-of-requires

@@ -4,7 +4,7 @@ use native.Mathlib.Omega.{arith}
 use borrow.Author.Rules.{rules}
 use Rattle.constraints.proofs.Decoding.{two_operands}
 use Rattle.problem.specs.Table.{constraint_of}
-use Rattle.marks.proofs.Needing.{Before, different_needs, negated_needs, listed_low, listed_needs, others_need, premises_asked, needs_start, needs_next, no_split, split_asked, split_low, with_split}
+use Rattle.marks.proofs.Needing.{split_low, range, Before, different_needs, negated_needs, listed_low, listed_needs, others_need, premises_asked, needs_start, needs_next, no_split, with_split}
 use Rattle.marks.proofs.needed.Statement.{statement}
 use Rattle.marks.proofs.needed.Tie as tie
 
@@ -66,16 +66,16 @@ span-of-requires-2 : tie.Need-span-of-requires-2 invariant-loop decreases-loop
 span-of-requires-2 c κs = search rules
 
 split-of-requires : tie.Need-split-of-requires invariant-loop decreases-loop
-split-of-requires c κs = let l = looped c.before in let k = kind l in split_asked _ (start k).pre k.before.before.l.given.1 l.before.Span-of.ensures c.before.before.before.loop-test.false l.loop.inv c.before.before.span-of2.ensures c.if1.true
+split-of-requires c κs = search rules
 
 bit-at-requires-3 : tie.Need-bit-at-requires-3 invariant-loop decreases-loop
-bit-at-requires-3 c κs = let s = c.before.before in let l = looped s in let k = kind l in omega (arith, split_low _ (start k).pre k.before.before.l.given.1 l.before.Span-of.ensures s.before.before.loop-test.false l.loop.inv s.before.span-of2.ensures c.before.if1.true c.split-of.ensures)
+bit-at-requires-3 c κs = let k = kind (looped c.before.before) in omega (arith, (split_low (range _ (start k).pre k.before.before.l.given.1) c.split-of.ensures).0)
 
 bit-at-requires-4 : tie.Need-bit-at-requires-4 invariant-loop decreases-loop
 bit-at-requires-4 c κs = search rules
 
 returns : tie.Need-returns invariant-loop decreases-loop
-returns c = let s = c.before.before.before.before in let l = looped s in let k = kind l in with_split _ (start k).pre k.before.before.l.given.1 l.before.Span-of.ensures s.before.before.loop-test.false l.loop.inv s.before.span-of2.ensures c.before.before.before.if1.true c.before.before.split-of.ensures c.before.bit-at3.ensures c.bit-at4.ensures
+returns c = let s = c.before.before.before.before in let l = looped s in let k = kind l in with_split _ (start k).pre k.before.before.l.given.1 l.before.Span-of.ensures s.before.before.loop-test.false l.loop.inv s.before.span-of2.ensures c.before.before.split-of.ensures c.before.bit-at3.ensures c.bit-at4.ensures
 
 enum-told-2 : tie.Need-enum-told-2 invariant-loop decreases-loop
 enum-told-2 c = search rules

@@ -12,7 +12,7 @@ abbrev start : tie.After-row-of → tie.Start
 start c = c.before
 
 low : (s : tie.Start) → (s.args.a.0 < most_sets) × (s.args.b.0 < most_sets) × (s.args.c.0 < most_sets)
-low s = s.requires.1
+low s = (s.requires.0.first_set, s.requires.0.second_set, s.requires.1)
 
 row-of-requires : tie.Need-row-of-requires
 row-of-requires c κs = search rules

@@ -17,7 +17,7 @@ add-i : tie.Need-overflow-add-i
 add-i c = search rules
 
 shared-slice-read-i : tie.Need-shared-slice-read-i
-shared-slice-read-i c = omega (arith, three_there _ _ _ _ _ _ _ c.before.before.before.three-at.ensures c.before.if1.false)
+shared-slice-read-i c = omega (arith, three_there _ _ _ _ _ _ c.before.before.before.three-at.ensures c.before.if1.false)
 
 cast-i : tie.Need-overflow-cast-i
 cast-i c =
@@ -28,7 +28,7 @@ add-j : tie.Need-overflow-add-j
 add-j c = search rules
 
 shared-slice-read-j : tie.Need-shared-slice-read-j
-shared-slice-read-j c = omega (arith, three_there _ _ _ _ _ _ _ c.before.before.before.before.three-at.ensures c.before.before.if1.false)
+shared-slice-read-j c = omega (arith, three_there _ _ _ _ _ _ c.before.before.before.before.three-at.ensures c.before.before.if1.false)
 
 cast-j : tie.Need-overflow-cast-j
 cast-j c =

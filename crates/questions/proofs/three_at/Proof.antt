@@ -14,7 +14,7 @@ refused-requires : tie.Need-refused-requires
 refused-requires c κs = search rules
 
 returns : tie.Need-returns
-returns c = c.refused.ensures ∙ three_short _ _ _ _ _ _ c.before.before.before.requires c.before.if1.true
+returns c = c.refused.ensures ∙ three_short _ _ _ _ _ c.before.before.before.requires c.before.if1.true
 
 shared-slice-read-if2 : tie.Need-shared-slice-read-if2
 shared-slice-read-if2 c = search rules
@@ -26,7 +26,7 @@ refused-requires-2 : tie.Need-refused-requires-2
 refused-requires-2 c κs = search rules
 
 returns-2 : tie.Need-returns-2
-returns-2 c = c.refused2.ensures ∙ three_first _ _ _ _ _ _ c.before.before.before.if1.false c.before.if2.true
+returns-2 c = c.refused2.ensures ∙ three_first _ _ _ _ _ c.before.before.before.if1.false c.before.if2.true
 
 add-if3 : tie.Need-overflow-add-if3
 add-if3 c = search rules
@@ -41,7 +41,7 @@ refused-requires-3 : tie.Need-refused-requires-3
 refused-requires-3 c κs = search rules
 
 returns-3 : tie.Need-returns-3
-returns-3 c = c.refused3.ensures ∙ three_second _ _ _ _ _ _ c.before.before.before.before.before.if1.false c.before.before.before.if2.false c.before.if3.true
+returns-3 c = c.refused3.ensures ∙ three_second _ _ _ _ _ c.before.before.before.before.before.if1.false c.before.before.before.if2.false c.before.if3.true
 
 add-if4 : tie.Need-overflow-add-if4
 add-if4 c = search rules
@@ -58,7 +58,7 @@ refused-requires-4 : tie.Need-refused-requires-4
 refused-requires-4 c κs = search rules
 
 returns-4 : tie.Need-returns-4
-returns-4 c = c.refused4.ensures ∙ three_third _ _ _ _ _ _ c.before.before.before.before.before.before.before.if1.false c.before.before.before.before.before.if2.false c.before.before.before.if3.false c.before.if4.true
+returns-4 c = c.refused4.ensures ∙ three_third _ _ _ _ _ c.before.before.before.before.before.before.before.if1.false c.before.before.before.before.before.if2.false c.before.before.before.if3.false c.before.if4.true
 
 add-accepted : tie.Need-overflow-add-accepted
 add-accepted c = search rules
@@ -67,7 +67,7 @@ accepted-requires : tie.Need-accepted-requires
 accepted-requires c κs = search rules
 
 returns-5 : tie.Need-returns-5
-returns-5 c = c.accepted.ensures ∙ three_good _ _ _ _ _ _ c.before.before.before.before.before.before.before.if1.false c.before.before.before.before.before.if2.false c.before.before.before.if3.false c.before.if4.false
+returns-5 c = c.accepted.ensures ∙ three_good _ _ _ _ _ c.before.before.before.before.before.before.before.if1.false c.before.before.before.before.before.if2.false c.before.before.before.if3.false c.before.if4.false
 
 pub three_at_spec : {M : Type 1} → statement M
 three_at_spec =

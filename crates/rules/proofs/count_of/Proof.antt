@@ -1,7 +1,13 @@
--- `count_of` meets its contract: each arm by its keys, the last by what is none of them.
-use Rattle.rules.proofs.Laying.{count_two, count_three, count_one}
+-- `count_of` meets its contract: rules 7 and 12 have two children.
+use Rattle.rules.proofs.Laying.{count_two, count_one}
 use Rattle.rules.proofs.count_of.Statement.{statement}
 use Rattle.rules.proofs.count_of.Tie as tie
 
+returns : tie.Need-returns
+returns c = count_two _ c.match.keys1
+
+returns-2 : tie.Need-returns-2
+returns-2 c = count_one _ c.match.rest.1
+
 pub count_of_spec : {M : Type 1} → statement M
-count_of_spec = tie.close (tie.spec (λ c. count_two _ c.match.keys1) (λ c. count_three _ c.match.keys2) (λ c. count_one _ c.match.rest.0.1 c.match.rest.1))
+count_of_spec = tie.close (tie.spec returns returns-2)
