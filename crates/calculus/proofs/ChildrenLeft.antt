@@ -44,14 +44,14 @@ keep_twice p (x ∷ xs) = go (p x) refl (keep_twice p xs)
     go false u ih = rw (u, ih)
 
 -- what was seen need not be taken out again
-unseen_out : (seen : List Term) (e : Term) (l : List Term) → Some (λ x. x ≡ e) seen → unseen seen (keep (other e) l) ≡ unseen seen l
-unseen_out seen e l (here {x = s} {xs = more} q) = ap (unseen more) (ap (λ (x : Term). keep (other s) (keep (other x) l)) (sym q) ∙ keep_twice (other s) l)
-unseen_out seen e l (there {x = s} {xs = more} q) = ap (unseen more) (keep_swap (other s) (other e) l) ∙ unseen_out more e (keep (other s) l) q
+unseen_out : (e : Term) (seen l : List Term) → Some (λ x. x ≡ e) seen → unseen seen (keep (other e) l) ≡ unseen seen l
+unseen_out e seen l (here {x = s} {xs = more} q) = ap (unseen more) (ap (λ (x : Term). keep (other s) (keep (other x) l)) (sym q) ∙ keep_twice (other s) l)
+unseen_out e seen l (there {x = s} {xs = more} q) = ap (unseen more) (keep_swap (other s) (other e) l) ∙ unseen_out e more (keep (other s) l) q
 
 -- a term that was seen is passed over, another stays
-unseen_old : (seen : List Term) (e : Term) (l : List Term) → Some (λ x. x ≡ e) seen → unseen seen (e ∷ l) ≡ unseen seen l
-unseen_old seen e l (here {x = s} {xs = more} q) = rw (eq-eqb e.index s.index (ap (λ (x : Term). x.index) (sym q)))
-unseen_old seen e l (there {x = s} {xs = more} q) = go (eqb e.index s.index) refl (unseen_old more e (keep (other s) l) q)
+unseen_old : (e : Term) (seen l : List Term) → Some (λ x. x ≡ e) seen → unseen seen (e ∷ l) ≡ unseen seen l
+unseen_old e seen l (here {x = s} {xs = more} q) = rw (eq-eqb e.index s.index (ap (λ (x : Term). x.index) (sym q)))
+unseen_old e seen l (there {x = s} {xs = more} q) = go (eqb e.index s.index) refl (unseen_old e more (keep (other s) l) q)
   where
     go : (t : Bool) → eqb e.index s.index ≡ t → unseen more (e ∷ keep (other s) l) ≡ unseen more (keep (other s) l) → unseen (s ∷ more) (e ∷ l) ≡ unseen (s ∷ more) l
     go true u ih = rw u
@@ -91,7 +91,7 @@ once [] seen = subst (Once seen []) (sym (nothing seen)) none_more
 once (e ∷ es) seen = go (seen? seen e) (once es seen) (once es (e ∷ seen))
   where
     go : Some (λ x. x ≡ e) seen ⊎ ¬ Some (λ x. x ≡ e) seen → Once seen es (unseen seen (distinct es)) → Once (e ∷ seen) es (unseen (e ∷ seen) (distinct es)) → Once seen (e ∷ es) (unseen seen (distinct (e ∷ es)))
-    go (inl q) ih more = subst (Once seen (e ∷ es)) (sym (unseen_old seen e (keep (other e) (distinct es)) q ∙ unseen_out seen e (distinct es) q)) (again q ih)
+    go (inl q) ih more = subst (Once seen (e ∷ es)) (sym (unseen_old e seen (keep (other e) (distinct es)) q ∙ unseen_out e seen (distinct es) q)) (again q ih)
     go (inr n) ih more = subst (Once seen (e ∷ es)) (sym (unseen_new seen e (keep (other e) (distinct es)) n)) (anew n more)
 
 -- no two lists are the terms of es that were not seen

@@ -17,7 +17,7 @@ use Rattle.calculus.specs.Encoding.{encode_constraint}
 use Rattle.calculus.specs.Reading.{parsed, gapless, Parser, refuse, two, three, of_list, of_interval, kinds, constraint, constraints}
 use Rattle.calculus.proofs.Bools.{and_l, and_r, and_i, each_all, all_each, each_imp, each_map}
 use Rattle.calculus.proofs.Gapless.{gapless_fills, fills_gapless}
-use Rattle.calculus.proofs.Parsers.{Recognizes, pair, OneByte, one, Counted, counted, Given, given, Asked, answered, Then, then, no_answer, byte_reads, bytes_read, gives, asks, same_writing, and_then}
+use Rattle.calculus.proofs.Parsers.{Recognizes, pair, OneByte, one, Counted, counted, Given, given, Asked, answered, Then, then, no_answer, byte_reads, bytes_read, gives, asks, same_writing, and_then, at_given}
 use Rattle.calculus.proofs.Sequences.{index_term, term_index}
 
 -- how the bytes after the kind say the constraint
@@ -67,15 +67,15 @@ module _ (cs : List ℤ) (N S : ℕ) (up : Rising cs) (known : length cs ≤ N) 
   two_kind k p q make f = (two_reads cs N S p q make, is)
     where
       is : (l : Constraint) (v : List ℕ) → Two cs N S p q make l v → At k l v
-      is l v (then (one {b = x}) (then (one {b = y}) (answered e given))) = f x y (ltb-true x p (and_l (ltb x p) (ltb y q) e)) (ltb-true y q (and_r (ltb x p) (ltb y q) e))
+      is l v (then (one {b = x}) (then (one {b = y}) (answered e w))) = at_given (λ c u. At k c (x ∷ y ∷ u)) w (f x y (ltb-true x p (and_l (ltb x p) (ltb y q) e)) (ltb-true y q (and_r (ltb x p) (ltb y q) e)))
 
   three_kind : (k : ℕ) (make : SetVar → SetVar → SetVar → Constraint) → ((A B C : SetVar) → A.index < S → B.index < S → C.index < S → At k (make A B C) (A.index ∷ B.index ∷ C.index ∷ [])) → Kind k (Three cs N S make) (three cs N S make)
   three_kind k make f = (three_reads cs N S make, is)
     where
       is : (l : Constraint) (v : List ℕ) → Three cs N S make l v → At k l v
-      is l v (then (one {b = x}) (then (one {b = y}) (then (one {b = z}) (answered e given)))) =
+      is l v (then (one {b = x}) (then (one {b = y}) (then (one {b = z}) (answered e w)))) =
           let h = and_l (ltb x S && ltb y S) (ltb z S) e in
-          f (set_var x) (set_var y) (set_var z) (ltb-true x S (and_l (ltb x S) (ltb y S) h)) (ltb-true y S (and_r (ltb x S) (ltb y S) h)) (ltb-true z S (and_r (ltb x S && ltb y S) (ltb z S) e))
+          at_given (λ c u. At k c (x ∷ y ∷ z ∷ u)) w (f (set_var x) (set_var y) (set_var z) (ltb-true x S (and_l (ltb x S) (ltb y S) h)) (ltb-true y S (and_r (ltb x S) (ltb y S) h)) (ltb-true z S (and_r (ltb x S && ltb y S) (ltb z S) e)))
 
   list_kind : Kind 11 (Listed cs N S) (of_list cs N S)
   list_kind = (list_reads cs N S, is)

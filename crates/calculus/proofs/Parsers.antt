@@ -95,6 +95,10 @@ bytes_read n = record { reads = reads; wrote = λ bs c. wrote bs c (leb n (lengt
     numbers bs m true q e = no_refusal (rw q at e)
     numbers bs m false q e = let r = rw q at e in let z : 2 ≡ m = cc in (omega arith, omega arith)
 
+-- what holds of a given value, and of no bytes, holds of what is written so
+pub at_given : {A : Type 0} {a c : A} {u : List ℕ} (P : A → List ℕ → Type 0) → Given a c u → P a [] → P c u
+at_given P given h = h
+
 -- a value that is there without any bytes
 pub gives : {A X : Type 0} {pack : A → List ℕ → X} (a : A) → Recognizes (λ c r. parsed (pack c r)) (Given a) (λ bs. parsed (pack a bs))
 gives {A} {X} {pack} a = record { reads = reads; wrote = λ bs c e. (a, [], bs, refl, e, given); cut = cut; numbers = λ bs n e. no_refusal e }

@@ -14,7 +14,7 @@ use Rattle.calculus.specs.Problem.{Problem, uses, Numbered, Valid}
 use Rattle.calculus.specs.Reading.{parsed, refused, ◌>>=◌, ask, words, ascending, in_range, letters, read_constants, read}
 use Rattle.calculus.proofs.Bools.{and_l, and_r}
 use Rattle.calculus.proofs.Words.{ascending_rising, range_is, letters_are}
-use Rattle.calculus.proofs.Parsers.{one, counted, given, answered, then, no_answer}
+use Rattle.calculus.proofs.Parsers.{one, counted, given, answered, then, no_answer, at_given}
 use Rattle.calculus.proofs.ConstraintLaws.{last_le}
 use Rattle.calculus.proofs.Sections.{whole, First, first_reads}
 
@@ -43,11 +43,11 @@ read_first bs prob e = let r = first_reads.wrote bs prob e in go r.0 r.1 r.2 r.3
     go a u (x ∷ rest) b q f = no_answer q
 
 pub first_valid : (prob : Problem) (u : List ℕ) → First prob u → Valid prob
-first_valid prob u (then (one {b = k}) (then (counted {xs = ws} e₁) (answered t₃ (then (one {b = n}) (then (counted {xs = ns} e₂) (answered t₄ (then (one {b = s}) (then (counted {xs = ss} e₃) (answered t₅ (then (one {b = m}) (answered t₆ (then {a = a} ls (answered t₁₁ given))))))))))))) =
+first_valid prob u (then (one {b = k}) (then (counted {xs = ws} e₁) (answered t₃ (then (one {b = n}) (then (counted {xs = ns} e₂) (answered t₄ (then (one {b = s}) (then (counted {xs = ss} e₃) (answered t₅ (then (one {b = m}) (answered t₆ (then {a = a} ls (answered t₁₁ w))))))))))))) =
     let cs : List ℤ = words ws in
     let N : ℕ = length cs + length ns in
     let end : a.1 ≡ N + (a.1 - N) = omega (arith, last_le a.0 N a.1 ls.3) in
-    record {
+    at_given (λ p _. Valid p) w (record {
       rising = ascending_rising cs (and_l (ascending cs) (in_range cs) t₃);
       range = range_is cs (and_r (ascending cs) (in_range cs) t₃);
       variables = letters_are 97 122 ns t₄;
@@ -57,7 +57,7 @@ first_valid prob u (then (one {b = k}) (then (counted {xs = ws} e₁) (answered 
       refers = ls.2;
       numbered = subst (λ (x : ℕ). Numbered N x a.0) end ls.3;
       few_terms = omega (arith, leb-true a.1 most_terms t₁₁);
-    }
+    })
 
 pub read_valid : (bs : List ℕ) (prob : Problem) → read bs ≡ parsed prob → Valid prob
 read_valid bs prob e = first_valid prob bs (read_first bs prob (first_question bs prob e).1)

@@ -15,7 +15,7 @@ use Rattle.calculus.specs.Reading.{parsed, words, ascending, in_range, read}
 use Rattle.calculus.specs.Demands.{Reads}
 use Rattle.calculus.proofs.Bools.{and_i, each_left}
 use Rattle.calculus.proofs.Words.{words_encoded, encoded_words, words_length, encoded_length, range_fits16, rising_ascending, is_range, are_letters}
-use Rattle.calculus.proofs.Parsers.{one, counted, given, Asked, answered, then}
+use Rattle.calculus.proofs.Parsers.{one, counted, given, Asked, answered, then, at_given}
 use Rattle.calculus.proofs.Sections.{First, Second, Third, Fourth, made, first_reads}
 use Rattle.calculus.proofs.ReadValid.{read_short, first_question, read_first, first_valid}
 
@@ -23,8 +23,8 @@ regroup : (a b c d : List ℕ) → a ++ b ++ c ++ d ≡ a ++ (b ++ (c ++ d))
 regroup a b c d = append_assoc (a ++ b) c d ∙ append_assoc a b (c ++ d)
 
 first_encoded : (prob : Problem) (u : List ℕ) → Bytes u → First prob u → u ≡ encode prob
-first_encoded prob u bs (then (one {b = k}) (then (counted {xs = ws} e₁) (answered t₃ (then (one {b = n}) (then (counted {xs = ns} e₂) (answered t₄ (then (one {b = s}) (then (counted {xs = ss} e₃) (answered t₅ (then (one {b = m}) (answered t₆ (then {a = a} {u = x} ls (answered t₁₁ given))))))))))))) =
-    rw (words_length k ws e₁, encoded_words k ws (each_left (λ x. x < 256) ws _ bs.1) e₁, e₂, e₃, ls.0, append-nil x, ls.1) (sym (regroup (k ∷ ws) (n ∷ ns) (s ∷ ss) (m ∷ gather encode_constraint a.0)))
+first_encoded prob u bs (then (one {b = k}) (then (counted {xs = ws} e₁) (answered t₃ (then (one {b = n}) (then (counted {xs = ns} e₂) (answered t₄ (then (one {b = s}) (then (counted {xs = ss} e₃) (answered t₅ (then (one {b = m}) (answered t₆ (then {a = a} {u = x} ls (answered t₁₁ w))))))))))))) =
+    at_given (λ p v. k ∷ ws ++ (n ∷ ns ++ (s ∷ ss ++ (m ∷ x ++ v))) ≡ encode p) w (rw (words_length k ws e₁, encoded_words k ws (each_left (λ x. x < 256) ws _ bs.1) e₁, e₂, e₃, ls.0, append-nil x, ls.1) (sym (regroup (k ∷ ws) (n ∷ ns) (s ∷ ss) (m ∷ gather encode_constraint a.0))))
 
 -- a valid problem, as it is encoded
 module _ (prob : Problem) (ok : Valid prob) where

@@ -41,10 +41,10 @@ module _ {F G : Type 0} (f : F → G) (p : G → Bool) where
   adds_map s = ap₂ imp (applies_map s) (all2_not s.alternatives)
 
 pub truth_fact : (v : Valuation) (h : Term) (s : Operand → SetVar) → (λ (l : Literal). truth v (fact_of h s l)) ≡ lit_true (λ p. has (v.members (s p)) (v.num h))
-truth_fact v h s = fun_ext (λ l. elim l [ R.In p ↦ refl | R.Out p ↦ refl ])
+truth_fact v h s = fun_ext (λ l. elim l as (λ m. truth v (fact_of h s m) ≡ lit_true (λ p. has (v.members (s p)) (v.num h)) m) [ R.In p ↦ refl | R.Out p ↦ refl ])
 
 pub known_fact : (b : Branch) (h : Term) (s : Operand → SetVar) → (λ (l : Literal). known b (fact_of h s l)) ≡ lit_known (λ p. known b (In h (s p))) (λ p. known b (Out h (s p)))
-known_fact b h s = fun_ext (λ l. elim l [ R.In p ↦ refl | R.Out p ↦ refl ])
+known_fact b h s = fun_ext (λ l. elim l as (λ m. known b (fact_of h s m) ≡ lit_known (λ p. known b (In h (s p))) (λ p. known b (Out h (s p))) m) [ R.In p ↦ refl | R.Out p ↦ refl ])
 
 -- ---- constraints with their witnesses
 

@@ -9,7 +9,7 @@ use Rattle.calculus.proofs.Bools.{and_l, and_r, and_i, imp_at, every, every3, ev
 
 module _ {X : Type 0} where
   by_all : (e : Operand → X) → operand_of (e A) (e B) (e C) ≡ e
-  by_all e = fun_ext (λ p. elim p [ A ↦ refl | B ↦ refl | C ↦ refl ])
+  by_all e = fun_ext (λ p. elim p as (λ o. operand_of (e A) (e B) (e C) o ≡ e o) [ A ↦ refl | B ↦ refl | C ↦ refl ])
 
 -- a literal's truth of an element
 abbrev pub lit_true : (Operand → Bool) → Literal → Bool

@@ -37,5 +37,8 @@ is_some (j ∷ k) i e = go (or_cases (eqb j.index i.index) (any (λ (j : Term). 
     go (inr q) ih = there (ih q)
 
 pub some_is : (k : List Term) (i : Term) → Some (λ x. x ≡ i) k → Is k i.index
-some_is k i (here {x = j} {xs = js} e) = or_l (any (λ (j : Term). eqb j.index i.index) js) (eq-eqb j.index i.index (ap (λ (x : Term). x.index) e))
-some_is k i (there {x = j} {xs = js} s) = or_r (eqb j.index i.index) (some_is js i s)
+some_is k i s = go k s
+  where
+    go : (k : List Term) → Some (λ x. x ≡ i) k → Is k i.index
+    go k (here {x = j} {xs = js} e) = or_l (any (λ (j : Term). eqb j.index i.index) js) (eq-eqb j.index i.index (ap (λ (x : Term). x.index) e))
+    go k (there {x = j} {xs = js} s) = or_r (eqb j.index i.index) (go js s)
