@@ -1,4 +1,6 @@
 // An assignment that was handed in: question 14, and where its parts stand. Nothing is copied.
+#![tactic(auto)]
+
 ghost use Rattle.std.specs.Prelude.{◌≡◌, ◌+◌, ◌*◌, ◌≤◌, ◌<◌, length, get_or};
 ghost use Rattle.calculus.specs.Limits.{most_sets};
 ghost use Rattle.assignment.specs.Laid.{no_layout, Lays, members_at};
@@ -7,7 +9,7 @@ use slices::rising;
 use terms::{MOST_SETS, SetVar};
 
 // Whether the bytes are an assignment; and of each set where its members begin, and how many there are. Both lists are 0 beyond the sets, and all 0 if the bytes are no assignment.
-#[derive(Drop)]
+#[derive(Clone, Copy)]
 pub struct Layout {
     pub ok: bool,
     pub starts: [usize; MOST_SETS],

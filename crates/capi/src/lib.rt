@@ -1,4 +1,6 @@
 // The calls that the tablet's program makes. Each answers in one word; docs/ANSWER.md has its layout.
+#![tactic(auto)]
+
 ghost use Rattle.std.specs.Prelude.{◌≡◌, ◌≤◌};
 ghost use Rattle.calculus.specs.Limits.{most_steps};
 ghost use Rattle.calculus.specs.Calls.{refusal, ended, verdict_of, answer_word, check, check_word};

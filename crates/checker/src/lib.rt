@@ -1,4 +1,6 @@
 // The assignment check: a test of each constraint, and the lowest that fails.
+#![tactic(auto)]
+
 ghost use Rattle.std.specs.Prelude.{◌≡◌, map, ◌+◌, ◌≤◌, ◌<◌};
 ghost use Rattle.calculus.specs.Limits.{most_terms};
 ghost use Rattle.calculus.specs.Lists.{up_from, all, Each};

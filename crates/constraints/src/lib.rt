@@ -1,4 +1,6 @@
 // A constraint, decoded from the problem's bytes.
+#![tactic(auto)]
+
 ghost use Rattle.std.specs.Prelude.{◌≡◌, ◌<◌};
 ghost use Rattle.calculus.specs.Limits.{most_terms};
 ghost use Rattle.calculus.specs.Lists.{up_from};
@@ -11,7 +13,7 @@ use problem::{Table, entries};
 use terms::{SetVar, Term};
 
 // The relations between sets, and those that a constraint can deny.
-#[derive(Drop)]
+#[derive(Clone, Copy)]
 pub enum Relation {
     Equal,
     Union,
@@ -20,20 +22,20 @@ pub enum Relation {
     Intersection,
 }
 
-#[derive(Drop)]
+#[derive(Clone, Copy)]
 pub enum Negation {
     Unequal,
 }
 
 // Where the entries of a set are: written in the problem, or the numbers from a first to a last.
-#[derive(Drop)]
+#[derive(Clone, Copy)]
 pub enum Entries {
     Written,
     Interval(Term, Term),
 }
 
 // A constraint with its operands; one of two sets repeats its first operand. The entries of a list or an interval are handed on beside it (`list_at`).
-#[derive(Drop)]
+#[derive(Clone, Copy)]
 pub enum Constraint {
     Member(Term, SetVar),
     Nonmember(Term, SetVar),

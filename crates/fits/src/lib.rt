@@ -1,4 +1,6 @@
 // Where a rule applies: the roots, as bits.
+#![tactic(auto)]
+
 ghost use Rattle.std.specs.Prelude.{◌≡◌, [], ◌^◌, ◌<◌};
 ghost use Rattle.std.specs.Int.Bits.{bit_and};
 ghost use Rattle.calculus.specs.Limits.{most_sets, most_terms};

@@ -1,4 +1,6 @@
 // Lists the solved forms of the problem on standard input.
+#![tactic(auto)]
+
 use capi::fuselinda_run;
 use listing_lines::{line, lines};
 

@@ -1,4 +1,6 @@
 // The text of a listing.
+#![tactic(auto)]
+
 mod form;
 
 ghost use Rattle.std.specs.Prelude.{◌≡◌, List, ℕ, ◌+◌, ◌/◌, ◌≤◌, length};

@@ -1,4 +1,6 @@
 // What a run looks up: of each constraint its entries, and of each mark the constraints that have it, as bits.
+#![tactic(auto)]
+
 ghost use Rattle.std.specs.Prelude.{◌≡◌, ◌&&◌, ℕ, ◌+◌, ◌^◌, ◌<◌, length, get_or};
 ghost use Rattle.calculus.specs.Limits.{most_sets, most_constraints, most_terms};
 ghost use Rattle.calculus.specs.Lists.{up_from, any, bit};

@@ -1,4 +1,6 @@
 // The problem's bytes: what is asked of them, where each part stands, and what stands there.
+#![tactic(auto)]
+
 mod sections;
 
 ghost use Rattle.std.specs.Prelude.{◌≡◌, map, ◌+◌, ◌*◌, ◌≤◌, ◌<◌, length, get_or, drop};
@@ -15,7 +17,7 @@ use sections::{constants_at, constraints_at, sets_at, variables_at};
 use terms::{MOST_BYTES, MOST_CONSTRAINTS, MOST_TERMS};
 
 // A problem's table (specs/Table.antt says what it holds). Nothing else is kept: all is read from the problem's bytes.
-#[derive(Drop)]
+#[derive(Clone, Copy)]
 pub struct Table {
     pub refusal: u8,
     pub constants: u8,
@@ -28,7 +30,7 @@ pub struct Table {
 }
 
 // A table without its two lists.
-#[derive(Drop)]
+#[derive(Clone, Copy)]
 pub struct Totals {
     pub refusal: u8,
     pub constants: u8,

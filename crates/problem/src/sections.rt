@@ -9,7 +9,7 @@ use questions::{Sizes, constants_ok, constraint_at, letters_ok};
 use terms::{MOST_CONSTRAINTS, MOST_SETS};
 
 // The number of the question that refuses a section, and 0 in all else; or 0, its count, and where the next one begins.
-#[derive(Drop)]
+#[derive(Clone, Copy)]
 pub struct Section {
     pub refusal: u8,
     pub count: usize,
@@ -102,7 +102,7 @@ pub fn sets_at(problem: &[u8], at: usize) -> Section
 
 // What the constraints are found to be: the question that refuses one, and 0 in all else; or 0, where they end, how many terms there
 // are, and of each where it stands and the number of its witness.
-#[derive(Drop)]
+#[derive(Clone, Copy)]
 pub struct Tables {
     pub refusal: u8,
     pub next: usize,

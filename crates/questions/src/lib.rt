@@ -1,4 +1,6 @@
 // The questions that are asked of a problem's bytes, one function each.
+#![tactic(auto)]
+
 ghost use Rattle.std.specs.Prelude.{◌≡◌, ◌&&◌, ◌+◌, ◌*◌, ◌≤◌, ◌<◌, length, drop, ltb};
 ghost use Rattle.calculus.specs.Limits.{most_bytes, most_sets};
 ghost use Rattle.calculus.specs.Lists.{all};
@@ -8,7 +10,7 @@ ghost use Rattle.questions.specs.Questions.{constants_of, scanned_of, ConstantsR
 use slices::{raised, rising};
 
 // How many constants and set variables there are, and how many terms a constraint can name.
-#[derive(Drop)]
+#[derive(Clone, Copy)]
 pub struct Sizes {
     pub constants: usize,
     pub nameable: usize,
@@ -16,7 +18,7 @@ pub struct Sizes {
 }
 
 // The number of the question that refuses a constraint; or 0, where the next one begins, and how many witnesses this one has.
-#[derive(Drop)]
+#[derive(Clone, Copy)]
 pub struct Scanned {
     pub refusal: u8,
     pub next: usize,

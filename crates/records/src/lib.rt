@@ -1,4 +1,6 @@
 // What a run writes: records of solved forms and of steps, and the counts.
+#![tactic(auto)]
+
 ghost use Rattle.std.specs.Prelude.{◌≡◌, [], ◌∷◌, ◌+◌, ◌*◌, ◌≤◌, ◌<◌, length};
 ghost use Rattle.calculus.specs.Limits.{most_terms};
 ghost use Rattle.calculus.specs.Forms.{record_of, record_length};
@@ -11,7 +13,7 @@ use branch::{Branch, record_length};
 use slices::put;
 
 // Steps taken and forms written; and why the run stopped: 0 it has not, 1 the budget is spent, 2 there is no room.
-#[derive(Drop)]
+#[derive(Clone, Copy)]
 pub struct Counts {
     pub steps: usize,
     pub forms: usize,

@@ -1,4 +1,6 @@
 // The rules as tables: which a constraint has, what each needs and gives.
+#![tactic(auto)]
+
 ghost use Rattle.std.specs.Prelude.{◌≡◌, ◌<◌};
 ghost use Rattle.calculus.specs.Limits.{most_sets};
 ghost use Rattle.rules.specs.Spans.{Spanned};
@@ -7,30 +9,30 @@ ghost use Rattle.rules.specs.Rows.{sets, numbered, HasRow, HasChild, laid, parte
 use terms::{OUT, SetVar};
 
 // A literal, by its number: k is "in set k", OUT + k is "out of set k".
-#[derive(Drop)]
+#[derive(Clone, Copy)]
 pub struct Literal(pub u8);
 
 // Rules by number, from the first up to the end.
-#[derive(Drop)]
+#[derive(Clone, Copy)]
 pub struct Span {
     pub first: u8,
     pub end: u8,
 }
 
 // A propagation rule, at any class: two literals that it needs known (the same twice, if it needs but one), and the one that it gives.
-#[derive(Drop)]
+#[derive(Clone, Copy)]
 pub struct Row(pub Literal, pub Literal, pub Literal);
 
 // A split, at any class: a literal that it needs known, and two sets, left and right, that it needs undecided. One child is in the left set; the other is out of it, and in the right one.
-#[derive(Drop)]
+#[derive(Clone, Copy)]
 pub struct Split(pub Literal, pub SetVar, pub SetVar);
 
 // A child, by its literals: of two the last stands again, of one all are the same.
-#[derive(Drop)]
+#[derive(Clone, Copy)]
 pub struct Child(pub Literal, pub Literal, pub Literal);
 
 // A negation's split, by its children: of two the last stands again, of one all are the same.
-#[derive(Drop)]
+#[derive(Clone, Copy)]
 pub struct Denial(pub Child, pub Child, pub Child);
 
 // The propagation rules of a constraint of a kind, or its split.

@@ -1,4 +1,6 @@
 // The first place where a rule applies, among the constraints that may have one.
+#![tactic(auto)]
+
 ghost use Rattle.std.specs.Prelude.{◌≡◌, true, ℕ, ◌<◌};
 ghost use Rattle.calculus.specs.Lists.{bit};
 ghost use Rattle.calculus.specs.Branch.{Branch};
@@ -19,14 +21,14 @@ use rules::span_of;
 use terms::Term;
 
 // What a search looks for, propagation rules or splits, and among which constraints, as bits.
-#[derive(Drop)]
+#[derive(Clone, Copy)]
 pub struct Scope {
     pub split: bool,
     pub among: u64,
 }
 
 // What a search answers: the number of a constraint, the rule, the root concerned, the constraint itself, and, as bits, the constraints that are left to look at. Rule 0 says that no rule applies.
-#[derive(Drop)]
+#[derive(Clone, Copy)]
 pub struct Found {
     pub number: u8,
     pub rule: u8,

@@ -1,4 +1,6 @@
 // Bytes of slices: two of them as a number, ascending numbers, bytes written at a place; and the numbers of all terms.
+#![tactic(auto)]
+
 ghost use Rattle.std.specs.Prelude.{◌≡◌, ◌+◌, ◌≤◌, ◌<◌, length};
 ghost use Rattle.calculus.specs.Limits.{most_terms};
 ghost use Rattle.calculus.specs.Lists.{up_from};

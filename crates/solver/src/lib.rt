@@ -1,4 +1,6 @@
 // The run: a branch is worked until it splits, and each child is worked as a branch.
+#![tactic(auto)]
+
 ghost use Rattle.std.specs.Prelude.{◌≡◌, ◌*◌, ◌≤◌, length};
 ghost use Rattle.calculus.specs.Limits.{most_steps};
 ghost use Rattle.problem.specs.Table.{Opened, table_by};
@@ -18,7 +20,7 @@ use slices::term_numbers;
 use step::{Act, act_of, child_at, child_count, kept, perform, slots};
 
 // What a run has besides its lists: the problem's totals, how many steps it may take, what it has counted, and the constraints, as bits, of which a propagation rule may apply, and those of which a split may.
-#[derive(Drop)]
+#[derive(Clone, Copy)]
 pub struct Run {
     pub totals: Totals,
     pub budget: usize,
@@ -28,7 +30,7 @@ pub struct Run {
 }
 
 // A split that a search found, with the children that are left, as bits, and the run as it is before them.
-#[derive(Drop)]
+#[derive(Clone, Copy)]
 pub struct FoundSplit {
     pub found: Found,
     pub left: u64,

@@ -1,11 +1,12 @@
 // The two sorts, and the limits of a problem.
+#![tactic(auto)]
 
 // A term, by its number: a constant, a variable or a witness. A term number and a set number are never used for one another.
-#[derive(Drop)]
+#[derive(Clone, Copy)]
 pub struct Term(pub u8);
 
 // A set variable, by its number.
-#[derive(Drop)]
+#[derive(Clone, Copy)]
 pub struct SetVar(pub u8);
 
 // The limits and widths of crates/calculus/specs/Limits.antt, for the code.

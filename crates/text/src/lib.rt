@@ -1,4 +1,6 @@
 // Text in a buffer. Each function writes at a place, and answers where the text ends.
+#![tactic(auto)]
+
 ghost use Rattle.std.specs.Prelude.{◌+◌, ◌≤◌, length};
 ghost use Rattle.calculus.specs.Reading.{signed};
 ghost use Rattle.text.specs.Text.{decimal as Text·decimal, number as Text·number, led, Wrote};
