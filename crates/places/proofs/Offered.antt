@@ -3,7 +3,7 @@ use mathlib.Core.Path.{◌≡◌, refl, sym, ◌∙◌, ap, fun_ext}
 use mathlib.Core.Logic.{◌⊎◌, inl, inr, ◌≢◌}
 use mathlib.Core.Bool.{Bool, true, false, cond, true≢false}
 use mathlib.Core.Option.{some}
-use mathlib.Core.List.{List, [], ◌∷◌, ◌++◌, map, append-nil, map_map}
+use mathlib.Core.List.{List, [], ◌∷◌, ◌++◌, map, append-nil, map-map}
 use Prim.Native.Nat.{ℕ, suc, ◌+◌, ◌-◌, ◌<◌, ◌≤◌}
 use native.Mathlib.Omega.{arith}
 use lib.ListN.{length, get_or}
@@ -50,7 +50,7 @@ module _ (n : ℕ) (b : Branch) where
       go false ih = ih
 
   lists_at_roots : (f : Term → Term × Move) → map f (roots_of n b) ≡ map (λ (p : ℕ). f (term p)) (roots n b)
-  lists_at_roots f = ap (map f) (kept (up_from 0 n)) ∙ map_map f term (roots n b)
+  lists_at_roots f = ap (map f) (kept (up_from 0 n)) ∙ map-map f term (roots n b)
 
   rows_offered : (s : Operand → SetVar) (rs : List (Rule Literal)) → at_roots (roots_of n b) s rs ≡ gather (λ (r : Rule Literal). map (λ (p : ℕ). (term p, at (term p) s r)) (roots n b)) rs
   rows_offered s rs = ap (λ (g : Rule Literal → List (Term × Move)). gather g rs) (fun_ext (λ r. lists_at_roots (λ h. (h, at h s r))))
