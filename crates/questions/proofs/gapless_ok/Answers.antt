@@ -1,7 +1,7 @@
 -- Rising constants rise by at least 1 each, so value and place rise alike exactly if none is missing.
 use Rattle.std.proofs.Common.{arith, ◌+◌, ◌*◌}
 use Rattle.slices.proofs.Parts.{raised_small}
-use Rattle.questions.proofs.Constants.{none_between, between}
+use Rattle.questions.proofs.Constants.{between}
 use Rattle.questions.proofs.gapless_ok.Goals as goal
 
 pub overflow_add-result : goal.overflow_add-result
