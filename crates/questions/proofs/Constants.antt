@@ -1,6 +1,6 @@
 -- The constants of a problem, one by one: each is two bytes at its place, and is raised to the number that the code compares.
 use mathlib.Core.Path.{◌≡◌, refl, sym, ap, ap₂, ◌∙◌}
-use mathlib.Core.Bool.{Bool, true, ◌&&◌}
+use mathlib.Core.Bool.{Bool, ◌&&◌}
 use mathlib.Core.List.{List, ◌∷◌, map}
 use Prim.Native.Nat.{ℕ, zero, suc, ◌+◌, ◌*◌, ◌-◌, ◌<◌, ◌≤◌}
 use native.Mathlib.Omega.{arith}
@@ -90,6 +90,3 @@ module _ (bs : List ℕ) (known : AllBytes bs) (k : ℕ) (room : 1 + 2 * k ≤ l
 
   pub between : (i j : ℕ) → i < j → j < k → eqb (At j) (At i + (j - i)) ≡ gapless (constants_of bs k) i j
   between i j l h = let e : i + (j - i) ≡ j = omega arith in rw e at (by_ends (j - i) i (omega arith))
-
-pub none_between : (bs : List ℕ) (k i j : ℕ) → j ≤ i → true ≡ gapless (constants_of bs k) i j
-none_between bs k i j l = let e : j - i ≡ 0 = omega arith in rw e refl
