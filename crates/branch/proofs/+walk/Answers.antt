@@ -1,5 +1,5 @@
 -- A term that is its own parent is its root, any other has its parent's root.
-use Rattle.std.proofs.Common.{◌<◌, ◌≤◌, arith, ◌∙◌}
+use Rattle.std.proofs.Common.{arith, ◌∙◌}
 use Rattle.branch.proofs.Roots.{parent_le, root_self, root_step}
 use Rattle.branch.proofs.+walk.Goals as goal
 

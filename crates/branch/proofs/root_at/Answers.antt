@@ -1,5 +1,5 @@
 -- A term has its parent's root: the answer is the parent, if that is a root, else the root of the parent's parent.
-use Rattle.std.proofs.Common.{◌<◌, ◌≤◌, arith, ◌∙◌, get_or}
+use Rattle.std.proofs.Common.{arith, ◌∙◌, get_or}
 use Rattle.branch.proofs.Roots.{parent_le, root_self, root_step}
 use Rattle.branch.proofs.root_at.Goals as goal
 

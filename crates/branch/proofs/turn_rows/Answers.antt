@@ -1,5 +1,5 @@
 -- A turn does the lowest literal of the mask, and takes its bit away; with no bit left nothing is left to do.
-use Rattle.std.proofs.Common.{ℕ, ◌-◌, ◌<◌, arith, rules, sym, ap, ◌∙◌, slice_set, bit_and}
+use Rattle.std.proofs.Common.{ℕ, ◌-◌, arith, rules, sym, ap, ◌∙◌, slice_set, bit_and}
 use lib.Count.{count_trailing_zeros}
 use Rattle.bits.proofs.Count.{less_lt}
 use Rattle.branch.specs.Rows.{turn_rows, literal_count}

@@ -1,5 +1,5 @@
 -- What is left to do on the rows now is what was to do at first; the mask falls.
-use Rattle.std.proofs.Common.{◌≡◌, ◌<◌, ◌^◌, length}
+use Rattle.std.proofs.Common.{◌≡◌, ◌<◌, ◌^◌}
 use Rattle.branch.specs.Rows.{turn_rows, literal_count}
 use Rattle.branch.proofs.turn_rows.Given as goal
 

@@ -1,7 +1,6 @@
 -- A turn writes the root of the next term and its class's masks; the root is in range.
-use Rattle.std.proofs.Common.{◌≡◌, ◌<◌, ◌+◌, arith, refl, sym, ◌∙◌}
+use Rattle.std.proofs.Common.{arith, refl, sym, ◌∙◌}
 use Rattle.calculus.specs.Limits.{most_terms}
-use Rattle.calculus.specs.Branch.{root_at}
 use Rattle.calculus.specs.Forms.{record_length}
 use Rattle.branch.specs.Held.{held}
 use Rattle.branch.proofs.Roots.{root_is, root_range}
