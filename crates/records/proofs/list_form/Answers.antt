@@ -1,9 +1,11 @@
 -- Where the record does not fit, the run stops; else the first bytes of what `record` answers are the record, and are put after the others.
-use Rattle.std.proofs.Common.{◌≡◌, [], ◌*◌, ℕ, length, List, ◌++◌, take, arith, sym, ap, ◌∙◌, add-one}
+use Rattle.std.proofs.Common.{◌≡◌, [], ◌*◌, ℕ, suc, length, List, ◌++◌, take, arith, sym, ap, ◌∙◌, add-one}
 use Rattle.calculus.specs.Branch.{Branch}
 use Rattle.calculus.specs.Forms.{record_of, record_length}
 use Rattle.calculus.proofs.RecordFields.{record_is_long}
-use Rattle.records.specs.State.{state}
+use Rattle.slices.specs.Bytes.{put_at}
+use Rattle.branch.specs.Held.{held}
+use Rattle.records.specs.State.{counts_of, state}
 use Rattle.records.proofs.FormWriting.{record_front, listed_not, listed_there, few_forms}
 use Rattle.records.proofs.list_form.Goals as goal
 
@@ -37,4 +39,6 @@ returns c =
     let a = c.args in
     let p = place _ _ a.c.forms c.record_length-size.ensures in
     let f = record_front _ _ _ _ _ c.record_length-size.ensures c.record-bytes.ensures in
-    rw (c.put.ensures, f, add-one, p) (sym (listed_there a.terms _ (state a.c a.forms.now []) (omega (arith, p))))
+    rw (c.put.ensures, f, add-one)
+    (ap (λ (at : ℕ). state (counts_of a.c.steps (suc a.c.forms) 0) (put_at a.forms.now at (record_of a.terms (held a.b))) []) p
+    ∙ sym (listed_there a.terms _ (state a.c a.forms.now []) (omega (arith, p))))
