@@ -44,7 +44,7 @@ loop-left-preserved c =
     let t = there c.requires.2 v.0 v.1 some in (
       v.0,
       elim c.if-rests.branch [
-        | then-rests w ↦ drop_one v.1 some (rest_idle _ c.decode_at-l.result t c.requires.0 c.decode_at-l.ensures (sym c.rests.ensures ∙ w.if-rests.true)) w.bit_at.ensures (omega arith) w.kept-is
+        | then-rests w ↦ drop_one v.1 some (rest_idle _ c.decode_at-l.result t c.requires.0 c.decode_at-l.ensures (sym c.rests.ensures ∙ w.if-rests.true)) (cc) (omega arith) w.kept-is
         | else-rests w ↦ drop_none v.1 some w.kept-is
       ],
     )
