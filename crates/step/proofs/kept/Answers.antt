@@ -38,15 +38,13 @@ loop-c-init c = numbers_none _ _ _ _ _ _ _
 pub act_of-a-requires : goal.act_of-a-requires
 act_of-a-requires c =
     let s = c.args in
-    let k = there _ _ c.requires.5.handled _ _ _ c.if-j-eq20.false c.count_of-c-end.ensures c.loop-c-test.true in
-    (c.requires.0, c.requires.3, (s.list.now, s.p, c.requires.5, k), c.if-j-eq20.false)
+    (c.requires.0, c.requires.3, (s.list.now, s.p, c.requires.5, there _ _ c.requires.5.handled _ _ _ c.if-j-eq20.false c.count_of-c-end.ensures (omega arith)), c.if-j-eq20.false)
 
 pub conflicts-requires : goal.conflicts-requires
 conflicts-requires c =
-    let s = c.args in
-    let k = there _ _ c.requires.5.handled _ _ _ c.if-j-eq20.false c.count_of-c-end.ensures c.loop-c-test.true in (
+    let s = c.args in (
       record { ins = c.requires.1; outs = c.requires.2; long = c.requires.4.long },
-      rooted_below s.parents.now c.act_of-a.result (c.act_of-a.ensures.0 s.list.now s.p c.requires.5 k).rooted,
+      rooted_below s.parents.now c.act_of-a.result (c.act_of-a.ensures.0 s.list.now s.p c.requires.5 (there _ _ c.requires.5.handled _ _ _ c.if-j-eq20.false c.count_of-c-end.ensures (omega arith))).rooted,
     )
 
 pub loop-c-preserved : goal.loop-c-preserved
@@ -54,8 +52,7 @@ loop-c-preserved c =
     let s = c.args in
     let v = c.loop-c in
     let r = c.conflicts.result in
-    let k = there _ _ c.requires.5.handled _ _ _ c.if-j-eq20.false c.count_of-c-end.ensures c.loop-c-test.true in
-    numbers_more _ _ _ _ _ _ _ v.c v.found _ v.invariant _ (c.act_of-a.ensures.0 s.list.now s.p c.requires.5 k) _ s.rows.now c.requires.4 c.conflicts.ensures
+    numbers_more _ _ _ _ _ _ _ v.c v.found _ v.invariant _ (c.act_of-a.ensures.0 s.list.now s.p c.requires.5 (there _ _ c.requires.5.handled _ _ _ c.if-j-eq20.false c.count_of-c-end.ensures (omega arith))) _ s.rows.now c.requires.4 c.conflicts.ensures
     (λ m. elim c.if-not-conflicts.branch [
       | then-not-conflicts w ↦ ap (λ (n : ℕ). bit n m) w.found-is ∙ taken_bit v.c v.found _ m r (ap not w.if-not-conflicts.true) w.bit_at-found.ensures
       | else-not-conflicts w ↦ ap (λ (n : ℕ). bit n m) w.found-is ∙ left_bit v.c v.found m r (ap not w.if-not-conflicts.false)
