@@ -19,7 +19,6 @@ use Rattle.calculus.proofs.Parsers.{one, counted, answered, then, at_given}
 use Rattle.calculus.proofs.Sections.{First}
 use Rattle.calculus.proofs.ReadValid.{first_question, read_first}
 use Rattle.calculus.proofs.RecordFields.{no_longer}
-use Rattle.calculus.proofs.Sequences.{any_default}
 use Rattle.slices.specs.Bytes.{bytes_at}
 use Rattle.problem.specs.declared.Table.{Table}
 use Rattle.problem.specs.Table.{problem_table, Opened, constant_of, values_of}

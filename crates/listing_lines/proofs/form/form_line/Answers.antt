@@ -2,7 +2,7 @@
 use Rattle.std.proofs.Common.{◌≡◌, ◌+◌, arith, length}
 use Rattle.calculus.specs.Problem.{set_count}
 use Rattle.listing_lines.specs.Writing.{problem_in}
-use Rattle.text.proofs.Texts.{wrote_nothing, wrote_length, wrote_more}
+use Rattle.text.proofs.Texts.{wrote_nothing, wrote_more}
 use Rattle.listing_lines.proofs.Values.{known}
 use Rattle.listing_lines.proofs.Items.{no_items, all_items, item_step}
 use Rattle.listing_lines.proofs.form.form_line.Goals as goal

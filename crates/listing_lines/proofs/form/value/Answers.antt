@@ -1,6 +1,5 @@
 -- A root that is a constant has its two bytes in the problem, any other 32,001 and its number; a root is at most its term, so the sum fits.
-use Rattle.std.proofs.Common.{◌<◌, arith}
-use Rattle.calculus.specs.Limits.{most_terms}
+use Rattle.std.proofs.Common.{arith}
 use Rattle.listing_lines.proofs.Values.{term_there, root_low, constant_value, constant_there, free_value}
 use Rattle.listing_lines.proofs.form.value.Goals as goal
 
