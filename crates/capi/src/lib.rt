@@ -42,12 +42,7 @@ fn ended(c: Counts) -> u64
 }
 
 // Runs a problem: lists its solved forms, and traces its steps.
-pub fn fuselinda_run(
-    problem: &[u8],
-    budget: u64,
-    forms: &mut [u8],
-    trace: &mut [u8],
-) -> u64
+pub fn fuselinda_run(problem: &[u8], budget: u64, forms: &mut [u8], trace: &mut [u8]) -> u64
     ensures { Determined problem.now budget forms.old trace.old result forms.new trace.new × RunContract problem.now budget forms.old trace.old result forms.new trace.new }
 {
     let tab = read(problem);
