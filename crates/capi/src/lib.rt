@@ -1,4 +1,4 @@
-// The calls that the tablet's program makes. Each answers in one word; docs/ANSWER.md has its layout.
+// The calls that the tablet's program makes, through crate capi_c. Each answers in one word; docs/ANSWER.md has its layout.
 #![tactic(auto)]
 
 ghost use Rattle.std.specs.Prelude.{◌≡◌, ◌≤◌};
@@ -42,13 +42,7 @@ fn ended(c: Counts) -> u64
 }
 
 // Runs a problem: lists its solved forms, and traces its steps.
-#[unsafe(no_mangle)]
-pub extern "C" fn fuselinda_run(
-    problem: &[u8],
-    budget: u64,
-    forms: &mut [u8],
-    trace: &mut [u8],
-) -> u64
+pub fn fuselinda_run(problem: &[u8], budget: u64, forms: &mut [u8], trace: &mut [u8]) -> u64
     ensures { Determined problem.now budget forms.old trace.old result forms.new trace.new × RunContract problem.now budget forms.old trace.old result forms.new trace.new }
 {
     let tab = read(problem);
@@ -67,8 +61,7 @@ pub extern "C" fn fuselinda_run(
 }
 
 // Checks an assignment that was worked by hand.
-#[unsafe(no_mangle)]
-pub extern "C" fn fuselinda_check(problem: &[u8], assignment: &[u8]) -> u64
+pub fn fuselinda_check(problem: &[u8], assignment: &[u8]) -> u64
     ensures { (result ≡ check_word (check problem.now assignment.now)) × CheckContract problem.now assignment.now result }
 {
     let tab = read(problem);
