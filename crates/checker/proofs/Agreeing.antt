@@ -1,22 +1,21 @@
 -- What the check sees in the bytes is what was handed in, so its tests are the calculus's.
 use mathlib.Core.Path.{◌≡◌, refl, sym, ap, ap₂, ◌∙◌, subst}
-use mathlib.Core.Bool.{Bool, true, false, ◌&&◌, not, cond}
-use mathlib.Core.Option.{Option, none, some}
+use mathlib.Core.Bool.{Bool, true, false, ◌&&◌}
+use mathlib.Core.Option.{Option, some}
 use mathlib.Core.List.{List, [], ◌∷◌, map}
-use Prim.Native.Nat.{ℕ, zero, suc, ◌+◌, ◌*◌, ◌-◌, ◌<◌, ◌≤◌}
+use Prim.Native.Nat.{ℕ, suc, ◌+◌, ◌*◌, ◌-◌, ◌<◌}
 use native.Mathlib.Omega.{arith}
 use native.Mathlib.Decide.{dec_lt}
 use lib.ListN.{length, get_or}
-use lib.Dec.{ltb}
 use lib.IntN.{ℤ, pos}
 use borrow.Author.Tests.{lt-ltb, le-ltb}
 use Rattle.calculus.specs.Lists.{all, Each}
-use Rattle.calculus.specs.Terms.{Term, SetVar, term, set_var}
+use Rattle.calculus.specs.Terms.{Term, SetVar}
 use Rattle.calculus.specs.Meaning.{Constraint, member, nonmember, same, different, relation, negation, exactly, interval, Valuation}
-use Rattle.calculus.specs.Problem.{Problem, constant_count, nameable, set_count, values, value_of, Refers, Valid}
-use Rattle.calculus.specs.Reading.{parsed, read, words}
+use Rattle.calculus.specs.Problem.{Problem, constant_count, nameable, set_count, values, value_of, Refers}
+use Rattle.calculus.specs.Reading.{parsed, read}
 use Rattle.calculus.specs.Encoding.{Handed}
-use Rattle.calculus.specs.Check.{assignment_of, has, relates?, exactly?, holds?, lowest}
+use Rattle.calculus.specs.Check.{assignment_of, has, exactly?, holds?, lowest}
 use Rattle.calculus.proofs.ReadValid.{read_valid}
 use Rattle.calculus.proofs.Sequences.{terms_each}
 use Rattle.problem.specs.declared.Table.{Table}

@@ -1,23 +1,20 @@
 -- The test of a decoded constraint, and the lowest that fails.
 use mathlib.Core.Path.{◌≡◌, refl, sym, ap, ap₂, ◌∙◌, subst}
 use mathlib.Core.Bool.{Bool, true, false, ◌&&◌}
-use mathlib.Core.Option.{Option, none, some}
-use mathlib.Core.List.{List, [], ◌∷◌, map, map_map}
+use mathlib.Core.List.{List, [], ◌∷◌, map, map-map}
 use Prim.Native.Nat.{ℕ, zero, suc, ◌+◌, ◌*◌, ◌-◌, ◌<◌, ◌≤◌}
 use native.Mathlib.Omega.{arith}
 use native.Mathlib.Numerals.{add-one}
 use lib.ListN.{length, get_or, drop}
 use lib.IntN.{ℤ}
-use lib.Dec.{eqb}
 use borrow.Author.Tests.{lt-ltb, le-ltb}
 use Rattle.calculus.specs.Limits.{most_sets}
 use Rattle.calculus.specs.Lists.{all, Each}
 use Rattle.calculus.specs.Terms.{Term, SetVar, term, set_var}
 use Rattle.calculus.specs.Meaning.{Constraint, Valuation}
-use Rattle.calculus.specs.Problem.{Problem, nameable, set_count, Refers}
-use Rattle.calculus.specs.Relations.{Relation, equal, denies}
-use Rattle.calculus.specs.Reading.{parsed, read, words, signed, eq_z}
-use Rattle.calculus.specs.Check.{has, relates?, exactly?, holds?, lowest}
+use Rattle.calculus.specs.Problem.{nameable, set_count, Refers}
+use Rattle.calculus.specs.Reading.{read, words}
+use Rattle.calculus.specs.Check.{has, exactly?, holds?, lowest}
 use Rattle.calculus.proofs.Bools.{all_map}
 use Rattle.calculus.proofs.Sequences.{each_at, terms_each}
 use Rattle.calculus.proofs.ReadValid.{read_valid}
@@ -29,13 +26,10 @@ use Rattle.constraints.specs.declared.Constraint as code
 use Rattle.constraints.specs.declared.Constraint.TheVariants.{Listed}
 use Rattle.constraints.specs.declared.Entries.{Entries}
 use Rattle.constraints.specs.declared.Entries.TheVariants.{Written, Interval}
-use Rattle.constraints.specs.declared.Negation as codeNegation
-use Rattle.constraints.specs.declared.Negation.TheVariants.{Unequal}
-use Rattle.constraints.specs.Decoded.{list_of, decoded, negation_of, Unpacked}
+use Rattle.constraints.specs.Decoded.{list_of, decoded, Unpacked}
 use Rattle.assignment.specs.declared.Layout.{Layout}
 use Rattle.assignment.specs.Laid.{members_at}
 use Rattle.checker.specs.Tested.{value_at, seen, Readable, entries_in, Fitting, failing}
-use Rattle.slices.proofs.TwoBytes.{same_number}
 
 -- ---- the operands of a constraint are there
 
@@ -94,16 +88,6 @@ module _ (bs : List ℕ) (tab : Table) (hs : List ℕ) (at : Layout) where
   abbrev here : Valuation
   here = seen bs tab hs at
 
-  pub member_test : (b : Bool) (m : List ℕ) (x t A : ℕ) → m ≡ members_at hs at A → signed x ≡ value_at bs tab hs t → b ≡ has (words m) (signed x) → b ≡ has (here.members (set_var A)) (here.num (term t))
-  member_test b m x t A em ex e = e ∙ ap₂ (λ (l : List ℕ) (y : ℤ). has (words l) y) em ex
-
-  pub same_test : (x y t u : ℕ) → (signed x ≡ value_at bs tab hs t) × (x < 65536) → (signed y ≡ value_at bs tab hs u) × (y < 65536) → eqb x y ≡ eq_z (here.num (term t)) (here.num (term u))
-  same_test x y t u ex ey = sym (same_number x y ex.1 ey.1) ∙ ap₂ eq_z ex.0 ey.0
-
-  pub relates_test : (b : Bool) (k : Relation) (l m r : List ℕ) (A B C : ℕ) → l ≡ members_at hs at A → m ≡ members_at hs at B → r ≡ members_at hs at C → b ≡ relates? k (words l) (words m) (words r)
-      → b ≡ relates? k (here.members (set_var A)) (here.members (set_var B)) (here.members (set_var C))
-  relates_test b k l m r A B C el em er e = rw (sym el, sym em, sym er) e
-
   exact : (k : Entries) (A : SetVar) (ts : List Term) → exactly? here A ts ≡ holds? here (list_of k A ts)
   exact Written A ts = refl
   exact (Interval x y) A ts = refl
@@ -111,14 +95,11 @@ module _ (bs : List ℕ) (tab : Table) (hs : List ℕ) (at : Layout) where
   pub list_test : (k : Entries) (b : Bool) (m es : List ℕ) (A : ℕ) → m ≡ members_at hs at A → b ≡ entries_in bs tab hs es (words m) → b ≡ holds? here (list_of k (set_var A) (map term es))
   list_test k b m es A em e = e ∙ ap (λ (l : List ℕ). entries_in bs tab hs es (words l)) em
       ∙ ap₂ (λ (x y : Bool). x && y)
-      (ap (λ (ys : List ℤ). all (has ys) (words (members_at hs at A))) (sym (map_map (λ (t : Term). value_at bs tab hs t.index) term es)))
+      (ap (λ (ys : List ℤ). all (has ys) (words (members_at hs at A))) (sym (map-map (λ (t : Term). value_at bs tab hs t.index) term es)))
       (sym (all_map (λ (t : Term). has (words (members_at hs at A)) (value_at bs tab hs t.index)) term es))
       ∙ exact k (set_var A) (map term es)
 
--- what a negation denies is equality
-pub negated_relates : (n : codeNegation.Negation) (b : Bool) (l m r : List ℤ) → b ≡ relates? equal l m r → b ≡ relates? (denies (negation_of n)) l m r
-negated_relates Unequal b l m r e = e
-
+-- the third set of a negation is there, being the first
 pub same_set : {A C : SetVar} {n : ℕ} → C ≡ A → A.index < n → C.index < n
 same_set {n = n} e l = subst (λ (X : SetVar). X.index < n) (sym e) l
 

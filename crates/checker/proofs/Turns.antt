@@ -1,10 +1,10 @@
 -- A turn of a loop that goes through a list: what is left of the list is one element and the rest.
 use mathlib.Core.Path.{◌≡◌, refl, sym, ap}
-use mathlib.Core.Bool.{Bool, true, false, not}
+use mathlib.Core.Bool.{Bool, true, false}
 use mathlib.Core.List.{List, [], ◌∷◌}
 use Prim.Native.Nat.{ℕ, ◌<◌}
 use lib.IntN.{ℤ}
-use borrow.Author.Tests.{ne_eqb, not-true, not-false}
+use borrow.Author.Tests.{ne_eqb}
 use Rattle.calculus.specs.Lists.{all}
 use Rattle.calculus.specs.Reading.{signed}
 use Rattle.calculus.specs.Check.{has}
@@ -26,11 +26,11 @@ not_found x left e = rw e refl
 -- a test of every element: t is whether this one passes
 module _ {A : Type 0} (p : A → Bool) (left : List A) where
   module _ (y : A) (rest : List A) (e : left ≡ y ∷ rest) (t : Bool) (is : t ≡ p y) where
-    pub fails : not t ≡ true → all p left ≡ false
-    fails n = rw (e, ← is, not-true t n) refl
+    pub fails : t ≡ false → all p left ≡ false
+    fails n = rw (e, ← is, n) refl
 
-    pub passes : not t ≡ false → all p left ≡ all p rest
-    passes n = rw (e, ← is, not-false t n) refl
+    pub passes : t ≡ true → all p left ≡ all p rest
+    passes n = rw (e, ← is, n) refl
 
   pub all_passed : left ≡ [] → all p left ≡ true
   all_passed e = rw e refl

@@ -1,7 +1,6 @@
 -- The values that the assignment check sees: a constant's in the problem's bytes, a variable's and a set's members in the assignment's.
 use Rattle.std.specs.Prelude.{Bool, ◌&&◌, cond, List, map, ℕ, ◌+◌, ◌*◌, ◌-◌, ◌<◌, ◌≤◌, length, get_or, ltb, ℤ}
 use Rattle.std.proofs.Math.Option.{Option, none, some}
-use Rattle.calculus.specs.Terms.{Term, SetVar}
 use Rattle.calculus.specs.Meaning.{Valuation}
 use Rattle.calculus.specs.Lists.{all}
 use Rattle.calculus.specs.Relations.{holds_at}

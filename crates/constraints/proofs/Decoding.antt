@@ -8,7 +8,6 @@ use lib.ListN.{length, get_or, take, drop, length-append, length-drop, length-ma
 use lib.Seq.{get_or-drop}
 use lib.IntN.{ℤ}
 use types.Run.{OneOf, miss}
-use denote.Enum.Declared.{tag_of}
 use Rattle.calculus.specs.Limits.{most_bytes, most_sets, most_constraints, most_terms}
 use Rattle.calculus.specs.Lists.{Each, up_from}
 use Rattle.calculus.specs.Terms.{Term, SetVar, term, set_var}
@@ -33,7 +32,6 @@ use Rattle.constraints.specs.declared.Constraint.{Constraint}
 use Rattle.constraints.specs.declared.Constraint.TheVariants.{Member, Nonmember, Same, Different, Related, Negated, Listed}
 use Rattle.places.specs.Places.{entries_of}
 use Rattle.constraints.specs.Decoded.{list_of, decoded, Unpacked}
-use Rattle.constraints.specs.contracts.Constraint.{the_type}
 
 -- ---- by the kind
 
@@ -153,7 +151,7 @@ list_set es {k = k} {A} e c = go k (subst (λ (x : Constraint). ConstraintIn mos
 
 -- the variants but a list
 abbrev NoList : Constraint → Type 0
-NoList r = OneOf (0 ∷ 1 ∷ 2 ∷ 3 ∷ 4 ∷ 5 ∷ []) (tag_of the_type r)
+NoList r = (k : Entries) (A : sets.SetVar) → ¬ (r ≡ Listed k A)
 
 -- a list, as its entries were matched
 pub listed_as : {r : Constraint} {k m : Entries} {A : sets.SetVar} → r ≡ Listed k A → k ≡ m → r ≡ Listed m A
@@ -167,7 +165,7 @@ no_entries (Same t u) a es = (refl, refl)
 no_entries (Different t u) a es = (refl, refl)
 no_entries (Related k A B C) a es = (refl, refl)
 no_entries (Negated k A B C w) a es = (refl, refl)
-no_entries (Listed k A) a es = absurd (miss (0 ∷ 1 ∷ 2 ∷ 3 ∷ 4 ∷ 5 ∷ []) 6 tt a)
+no_entries (Listed k A) a es = absurd (a k A refl)
 
 -- where the table says that it stands, and what it says of its witness
 pub stands_there : (bs : List ℕ) (tab : Table) (i : ℕ) → Opened bs tab → i < tab.constraints → (i < most_constraints) × Stands bs i (get_or tab.offsets i 0) × (term (get_or tab.witnesses i 0) ≡ witness_of bs i)

@@ -13,7 +13,7 @@ use lib.Bits.{bit_and, bit_or, and_lt, or_lt}
 use lib.Pow.{pow-lt}
 use borrow.Author.Tests.{eqb-true, eq-eqb}
 use Rattle.calculus.specs.Limits.{most_terms}
-use Rattle.calculus.specs.Lists.{any, bit, Each}
+use Rattle.calculus.specs.Lists.{any, bit}
 use Rattle.calculus.proofs.Bools.{or_l, or_r, or_cases, eqb_flip}
 use Rattle.calculus.proofs.Masks.{bit_of_or, bit_pow, bit_zero}
 use Rattle.bits.proofs.Bits.{bit_without}

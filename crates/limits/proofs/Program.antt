@@ -1,7 +1,7 @@
 -- Printed by tests/print-cases from rows/Program.rows: do not edit.
 -- The listing program's limits: a budget of 1,000 steps and a form buffer of 32,768 bytes. Each row is a theorem of its own, as the checker bounds the work of one. The expected answers are those of the solver under tests/.
 use mathlib.Core.Path.{◌≡◌, refl}
-use mathlib.Core.List.{List, [], ◌∷◌}
+use mathlib.Core.List.{[], ◌∷◌}
 use Rattle.calculus.specs.Reading.{◌>>=◌, ask, byte, bytes, read_constraints, read_sets, read_variables, read_constants, read}
 use Rattle.calculus.specs.Search.{next}
 use Rattle.calculus.specs.Run.{run}

@@ -1,7 +1,7 @@
 -- The lines of a listing, from a run's answer word and form buffer.
 use mathlib.Core.Path.{◌≡◌, refl, sym, ap, ◌∙◌, subst}
 use mathlib.Core.List.{List, [], ◌∷◌, map}
-use Prim.Native.Nat.{ℕ, zero, suc, ◌+◌, ◌*◌, ◌-◌, ◌/◌, ◌<◌, ◌≤◌}
+use Prim.Native.Nat.{ℕ, zero, suc, ◌+◌, ◌*◌, ◌/◌, ◌<◌, ◌≤◌}
 use native.Mathlib.Omega.{arith}
 use native.Mathlib.Nat.{mul-zero, mul-suc, mul_comm, mul-le-mul_left, le_of_suc-le-suc}
 use lib.ListN.{length, get_or, take, drop, replicate, length-map, length-replicate, get_or-eq_default}

@@ -15,11 +15,10 @@ use Rattle.calculus.specs.Problem.{Problem, constant_count, term_count, set_coun
 use Rattle.calculus.specs.Reading.{Parsed, parsed, words, signed, read}
 use Rattle.calculus.specs.Forms.{record_length, root_in, inside_in, model_number}
 use Rattle.calculus.proofs.Words.{words_length}
-use Rattle.calculus.proofs.Parsers.{one, counted, given, answered, then}
+use Rattle.calculus.proofs.Parsers.{one, counted, answered, then, at_given}
 use Rattle.calculus.proofs.Sections.{First}
 use Rattle.calculus.proofs.ReadValid.{first_question, read_first}
 use Rattle.calculus.proofs.RecordFields.{no_longer}
-use Rattle.calculus.proofs.Sequences.{any_default}
 use Rattle.slices.specs.Bytes.{bytes_at}
 use Rattle.problem.specs.declared.Table.{Table}
 use Rattle.problem.specs.Table.{problem_table, Opened, constant_of, values_of}
@@ -60,7 +59,7 @@ pub record LettersStand (prob : Problem) (u : List ℕ) : Type 0 where
   pub set : (i : ℕ) → i < set_count prob → (3 + 2 * constant_count prob + (length prob.variables + i) < length u) × (get_or u (3 + 2 * constant_count prob + (length prob.variables + i)) 0 ≡ get_or prob.sets i 0)
 
 letters_stand : (prob : Problem) (u : List ℕ) → First prob u → LettersStand prob u
-letters_stand prob u (then (one {b = k}) (then (counted {xs = ws} e₁) (answered t₃ (then (one {b = n}) (then (counted {xs = ns} e₂) (answered t₄ (then (one {b = s}) (then (counted {xs = ss} e₃) (answered t₅ (then (one {b = m}) (answered t₆ (then {a = a} {u = x} ls (answered t₁₁ given))))))))))))) =
+letters_stand prob u (then (one {b = k}) (then (counted {xs = ws} e₁) (answered t₃ (then (one {b = n}) (then (counted {xs = ns} e₂) (answered t₄ (then (one {b = s}) (then (counted {xs = ss} e₃) (answered t₅ (then (one {b = m}) (answered t₆ (then {a = a} {u = x} ls (answered t₁₁ w))))))))))))) =
     let g₃ : List ℕ = m ∷ (x ++ []) in
     let g₂ : List ℕ = s ∷ (ss ++ g₃) in
     let g₁ : List ℕ = n ∷ (ns ++ g₂) in
@@ -68,10 +67,10 @@ letters_stand prob u (then (one {b = k}) (then (counted {xs = ws} e₁) (answere
     let a₁ = length-append ws g₁ in
     let a₂ = length-append ns g₂ in
     let a₃ = length-append ss g₃ in
-    record {
+    at_given (λ p v. LettersStand p (k ∷ ws ++ (n ∷ ns ++ (s ∷ ss ++ (m ∷ x ++ v))))) w (record {
       variable = λ i q. let e : 2 + 2 * length (words ws) + i ≡ suc (length ws + suc i) = omega (arith, l) in (omega (arith, l, q, a₁, a₂), rw e (get_or-append-add ws g₁ (suc i) 0 ∙ get_or-append ns g₂ 0 i q));
       set = λ i q. let e : 3 + 2 * length (words ws) + (length ns + i) ≡ suc (length ws + suc (length ns + suc i)) = omega (arith, l) in (omega (arith, l, q, a₁, a₂, a₃), rw e (get_or-append-add ws g₁ (suc (length ns + suc i)) 0 ∙ get_or-append-add ns g₂ (suc i) 0 ∙ get_or-append ss g₃ 0 i q));
-    }
+    })
 
 pub letters : (bs : List ℕ) (tab : Table) → Opened bs tab → LettersStand (problem_in bs) bs
 letters bs tab o = letters_stand (problem_in bs) bs (read_first bs (problem_in bs) (first_question bs (problem_in bs) (known bs tab o).reads).1)

@@ -1,5 +1,5 @@
 -- What the functions that write text are held to.
-use Rattle.std.specs.Prelude.{◌≡◌, Bool, cond, List, [], ◌++◌, ℕ, ◌+◌, ◌/◌, ◌%◌, get_or, eqb}
+use Rattle.std.specs.Prelude.{◌≡◌, Bool, cond, List, [], ◌++◌, ℕ, ◌/◌, ◌%◌, get_or, eqb}
 use Rattle.calculus.specs.Terms.{term, set_var}
 use Rattle.calculus.specs.Problem.{Problem}
 use Rattle.calculus.specs.Reading.{Parsed, parsed, refused, read}

@@ -3,16 +3,15 @@ use mathlib.Core.Path.{◌≡◌, ap, ◌∙◌}
 use mathlib.Core.List.{List}
 use Prim.Native.Nat.{ℕ, ◌<◌, ◌≤◌}
 use native.Mathlib.Omega.{arith}
-use lib.ListN.{length, get_or}
+use lib.ListN.{get_or}
 use lib.Dec.{eqb}
 use Rattle.calculus.specs.Limits.{most_terms}
 use Rattle.calculus.specs.Lists.{any}
 use Rattle.calculus.specs.Terms.{Term, term}
 use Rattle.calculus.specs.Meaning as calculus
-use Rattle.calculus.specs.Reading.{read}
 use Rattle.calculus.proofs.Bools.{any_map}
 use Rattle.problem.specs.declared.Totals.{Totals}
-use Rattle.problem.specs.Table.{Tabled, Stands, constraints_of, constraint_of, table_by, witness_of}
+use Rattle.problem.specs.Table.{Tabled, constraint_of, table_by}
 use Rattle.problem.proofs.Access.{opened_sizes, constraint_count}
 use Rattle.places.specs.Places.{entries_of}
 use Rattle.constraints.specs.declared.Constraint.{Constraint}

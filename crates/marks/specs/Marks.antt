@@ -1,5 +1,5 @@
 -- The literals that a constraint's rules need, as bits, and how the words by literal are marked with them.
-use Rattle.std.specs.Prelude.{◌≡◌, true, ◌&&◌, ◌||◌, List, ℕ, ◌+◌, ◌^◌, ◌<◌, length, get_or, eqb}
+use Rattle.std.specs.Prelude.{◌≡◌, true, ◌&&◌, ◌||◌, List, ℕ, ◌^◌, ◌<◌, length, get_or, eqb}
 use Rattle.calculus.specs.Limits.{most_constraints}
 use Rattle.calculus.specs.Lists.{bit}
 use Rattle.calculus.specs.Meaning.{Constraint}

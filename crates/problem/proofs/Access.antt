@@ -17,7 +17,7 @@ use Rattle.calculus.specs.Problem.{Problem, nameable, term_count, uses, Tied, Nu
 use Rattle.calculus.specs.Encoding.{encode_constraint}
 use Rattle.calculus.specs.Reading.{Parsed, parsed, refused, words, read}
 use Rattle.calculus.proofs.Words.{words_length}
-use Rattle.calculus.proofs.Parsers.{one, counted, given, answered, then}
+use Rattle.calculus.proofs.Parsers.{one, counted, answered, then, at_given}
 use Rattle.calculus.proofs.Sections.{First}
 use Rattle.calculus.proofs.ReadValid.{first_question, read_first, read_valid}
 use Rattle.calculus.proofs.Refuses.{refuses}
@@ -51,7 +51,7 @@ opened bs tab o = go (read bs) refl
 -- ---- where the constraints stand
 
 header_ends : (prob : Problem) (u : List ℕ) → First prob u → drop (header_length prob) u ≡ gather encode_constraint prob.constraints
-header_ends prob u (then (one {b = k}) (then (counted {xs = ws} e₁) (answered t₃ (then (one {b = n}) (then (counted {xs = ns} e₂) (answered t₄ (then (one {b = s}) (then (counted {xs = ss} e₃) (answered t₅ (then (one {b = m}) (answered t₆ (then {a = a} {u = x} ls (answered t₁₁ given))))))))))))) =
+header_ends prob u (then (one {b = k}) (then (counted {xs = ws} e₁) (answered t₃ (then (one {b = n}) (then (counted {xs = ns} e₂) (answered t₄ (then (one {b = s}) (then (counted {xs = ss} e₃) (answered t₅ (then (one {b = m}) (answered t₆ (then {a = a} {u = x} ls (answered t₁₁ w))))))))))))) =
     let g : List ℕ = gather encode_constraint a.0 in
     let front : List ℕ = (k ∷ ws) ++ ((n ∷ ns) ++ ((s ∷ ss) ++ (m ∷ []))) in
     let l : length front ≡ 4 + 2 * length (words ws) + length ns + length ss =
@@ -59,16 +59,16 @@ header_ends prob u (then (one {b = k}) (then (counted {xs = ws} e₁) (answered 
     let j : (k ∷ ws) ++ ((n ∷ ns) ++ ((s ∷ ss) ++ (m ∷ g))) ≡ front ++ g =
     sym (append_assoc (k ∷ ws) ((n ∷ ns) ++ ((s ∷ ss) ++ (m ∷ []))) g
     ∙ ap (λ (y : List ℕ). (k ∷ ws) ++ y) (append_assoc (n ∷ ns) ((s ∷ ss) ++ (m ∷ [])) g ∙ ap (λ (y : List ℕ). (n ∷ ns) ++ y) (append_assoc (s ∷ ss) (m ∷ []) g))) in
-    rw (append-nil x, ls.1, j) (drop_at front g (4 + 2 * length (words ws) + length ns + length ss) l)
+    at_given (λ p v. drop (header_length p) (k ∷ ws ++ (n ∷ ns ++ (s ∷ ss ++ (m ∷ x ++ v)))) ≡ gather encode_constraint p.constraints) w (rw (append-nil x, ls.1, j) (drop_at front g (4 + 2 * length (words ws) + length ns + length ss) l))
 
 -- ---- the constants
 
 constants_stand : (prob : Problem) (u : List ℕ) → First prob u → (1 + 2 * length prob.constants ≤ length u) × (constants_of u (length prob.constants) ≡ prob.constants)
 unfolding constants_of
-constants_stand prob u (then (one {b = k}) (then (counted {xs = ws} e₁) (answered t₃ (then (one {b = n}) (then (counted {xs = ns} e₂) (answered t₄ (then (one {b = s}) (then (counted {xs = ss} e₃) (answered t₅ (then (one {b = m}) (answered t₆ (then {a = a} {u = x} ls (answered t₁₁ given))))))))))))) =
+constants_stand prob u (then (one {b = k}) (then (counted {xs = ws} e₁) (answered t₃ (then (one {b = n}) (then (counted {xs = ns} e₂) (answered t₄ (then (one {b = s}) (then (counted {xs = ss} e₃) (answered t₅ (then (one {b = m}) (answered t₆ (then {a = a} {u = x} ls (answered t₁₁ w))))))))))))) =
     let g : List ℕ = n ∷ (ns ++ (s ∷ (ss ++ (m ∷ (x ++ []))))) in
     let l : length ws ≡ 2 * length (words ws) = omega (arith, words_length k ws e₁) in
-    (omega (arith, length-append ws g), ap words (take_at ws g (2 * length (words ws)) l))
+    at_given (λ p v. (1 + 2 * length p.constants ≤ length (k ∷ ws ++ (n ∷ ns ++ (s ∷ ss ++ (m ∷ x ++ v))))) × (constants_of (k ∷ ws ++ (n ∷ ns ++ (s ∷ ss ++ (m ∷ x ++ v)))) (length p.constants) ≡ p.constants)) w (omega (arith, length-append ws g), ap words (take_at ws g (2 * length (words ws)) l))
 
 pub constant_read : (bs : List ℕ) (tab : Table) (t : ℕ) → Opened bs tab → t < tab.constants → (2 + 2 * t < length bs) × (constant_at bs t ≡ constant_of bs t)
 unfolding problem_table constant_of values_of

@@ -2,10 +2,10 @@
 use mathlib.Core.Path.{◌≡◌, refl, sym, ap, ap₂, ◌∙◌}
 use mathlib.Core.Bool.{Bool, true, false, ◌&&◌}
 use mathlib.Core.List.{List, [], ◌∷◌, ◌++◌, map}
-use Prim.Native.Nat.{ℕ, zero, suc, ◌+◌, ◌*◌, ◌-◌, ◌%◌, ◌<◌, ◌≤◌}
+use Prim.Native.Nat.{ℕ, zero, suc, ◌+◌, ◌-◌, ◌%◌, ◌<◌, ◌≤◌}
 use native.Mathlib.Omega.{arith}
 use native.Mathlib.Numerals.{add-one}
-use lib.ListN.{length, get_or, take, drop, set, replicate, length-append, length-take, length-drop, length-map}
+use lib.ListN.{length, get_or, drop, set, replicate, length-append, length-drop, length-map}
 use lib.Seq.{drop-drop, drop-append_seam, sets, sets-eq}
 use lib.Dec.{ltb}
 use lib.IntN.{ℤ}
@@ -17,11 +17,10 @@ use Rattle.calculus.specs.Meaning.{Constraint, member, nonmember, same, differen
 use Rattle.calculus.specs.Problem.{Rising, entries, uses}
 use Rattle.calculus.specs.Encoding.{encode_constraint}
 use Rattle.calculus.specs.Reading.{Parsed, parsed, refused, ◌>>=◌, ask, byte, bytes, gapless, Parser, refuse, two, three, of_list, of_interval, kinds, constraint, constraints}
-use Rattle.calculus.proofs.Words.{words_length}
 use Rattle.calculus.proofs.ConstraintParsers.{constraint_reads, constraints_read}
 use Rattle.questions.specs.declared.Scanned.{Scanned}
 use Rattle.problem.specs.declared.sections.Tables.{Tables}
-use Rattle.questions.specs.Questions.{constants_of, scanned_of}
+use Rattle.questions.specs.Questions.{scanned_of}
 use Rattle.slices.specs.Bytes.{places_from, filled}
 use Rattle.slices.proofs.Parts.{places_length}
 use Rattle.problem.specs.Sections.{starts_from, witnesses_from, refused_tables, tables_of}

@@ -8,7 +8,6 @@ use Rattle.calculus.specs.Reading.{Parsed, parsed, refused, ◌>>=◌, ask, byte
 use Rattle.slices.specs.Bytes.{places_from, filled}
 use Rattle.problem.specs.declared.sections.Section.{Section}
 use Rattle.problem.specs.declared.sections.Tables.{Tables}
-use Rattle.questions.specs.Questions.{constants_of}
 
 -- ---- a section
 

@@ -1,7 +1,7 @@
 -- A problem's table, and what is read through it. Assumes nothing: these are definitions.
 use Rattle.std.specs.Prelude.{◌≡◌, List, [], ℕ, ◌+◌, ◌*◌, ◌<◌, length, get_or, replicate, ℤ, pos}
 use Rattle.calculus.specs.Limits.{most_constraints}
-use Rattle.calculus.specs.Terms.{Term, SetVar, term}
+use Rattle.calculus.specs.Terms.{Term, term}
 use Rattle.calculus.specs.Relations.{equal, union, disjoint, subset, intersection, unequal}
 use Rattle.calculus.specs.Meaning.{Constraint, member, nonmember, same, different, relation, negation, exactly, interval}
 use Rattle.calculus.specs.Problem.{Problem, constant_count, nameable, term_count, set_count}

@@ -1,7 +1,7 @@
 -- The constants of a problem, one by one: each is two bytes at its place, and is raised to the number that the code compares.
 use mathlib.Core.Path.{◌≡◌, refl, sym, ap, ap₂, ◌∙◌}
-use mathlib.Core.Bool.{Bool, true, false, ◌&&◌}
-use mathlib.Core.List.{List, [], ◌∷◌, map}
+use mathlib.Core.Bool.{Bool, ◌&&◌}
+use mathlib.Core.List.{List, ◌∷◌, map}
 use Prim.Native.Nat.{ℕ, zero, suc, ◌+◌, ◌*◌, ◌-◌, ◌<◌, ◌≤◌}
 use native.Mathlib.Omega.{arith}
 use native.Mathlib.Decide.{ℕ_discrete}
@@ -9,7 +9,7 @@ use lib.ListN.{length, get_or, take, drop, length-take, length-drop}
 use lib.Dec.{eqb}
 use lib.IntN.{ℤ, pos, suc_ℤ}
 use lib.Signed.{◌<ℤ◌, lt_z}
-use borrow.Author.Tests.{eq-eqb, ne_eqb, eqb-true, ltb-true}
+use borrow.Author.Tests.{eq-eqb, ne_eqb, ltb-true}
 use Rattle.calculus.specs.Lists.{all, up_from}
 use Rattle.calculus.specs.Reading.{words, eq_z, gapless}
 use Rattle.calculus.proofs.Words.{words_length}
@@ -90,6 +90,3 @@ module _ (bs : List ℕ) (known : AllBytes bs) (k : ℕ) (room : 1 + 2 * k ≤ l
 
   pub between : (i j : ℕ) → i < j → j < k → eqb (At j) (At i + (j - i)) ≡ gapless (constants_of bs k) i j
   between i j l h = let e : i + (j - i) ≡ j = omega arith in rw e at (by_ends (j - i) i (omega arith))
-
-pub none_between : (bs : List ℕ) (k i j : ℕ) → j ≤ i → true ≡ gapless (constants_of bs k) i j
-none_between bs k i j l = let e : j - i ≡ 0 = omega arith in rw e refl

@@ -1,5 +1,5 @@
 -- The state of a run: its counters and both buffers, and what each event makes of it.
-use Rattle.std.specs.Prelude.{Bool, true, false, cond, List, [], ◌∷◌, ℕ, suc, ◌+◌, ◌*◌, ◌≤◌, length, eqb, leb}
+use Rattle.std.specs.Prelude.{cond, List, [], ◌∷◌, ℕ, suc, ◌+◌, ◌*◌, ◌≤◌, length, eqb, leb}
 use Rattle.calculus.specs.Limits.{most_steps}
 use Rattle.calculus.specs.Forms.{record_length, record_of}
 use Rattle.calculus.specs.Run.{Event, formed, stepped, End, DONE, SPENT, NOROOM, Tally}

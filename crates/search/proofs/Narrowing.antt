@@ -1,7 +1,7 @@
 -- Which constraints of a mask a search leaves out. For splits one is idle that has none. One of kind 4 is idle where its terms are of two classes; a list is, where each entry is a root in its set, or for splits where each root in its set is an entry. The loop of `looked_at` drops such constraints, and keeps: all that it dropped are idle.
 use mathlib.Core.Path.{◌≡◌, refl, sym, ap, ◌∙◌, subst}
 use mathlib.Core.Logic.{◌⊎◌, inl, inr}
-use mathlib.Core.Bool.{Bool, true, false, ◌&&◌, ◌||◌, not, and-true, false≢true}
+use mathlib.Core.Bool.{Bool, true, false, ◌&&◌, not, and-true, false≢true}
 use mathlib.Core.Option.{none}
 use mathlib.Core.List.{List, [], ◌∷◌, map}
 use Prim.Native.Nat.{ℕ, zero, suc, ◌-◌, ◌^◌, ◌<◌, ◌≤◌}
@@ -21,10 +21,10 @@ use Rattle.calculus.specs.Branch.{Branch, root_at, In, known}
 use Rattle.calculus.specs.Invariants.{ConstraintIn}
 use Rattle.calculus.specs.Search.{choose}
 use Rattle.calculus.specs.Reading.{read}
-use Rattle.calculus.proofs.Bools.{clash, and_l, and_r, or_cases, or_l, or_r, not_f, each_imp}
+use Rattle.calculus.proofs.Bools.{clash, and_l, and_r, or_cases, or_l, or_r, each_imp}
 use Rattle.calculus.proofs.SearchLaws.{first_next, none_found}
 use Rattle.calculus.proofs.Sequences.{up_each, keep_each}
-use Rattle.bits.proofs.Bits.{bit_of_and, bit_pow, bit_without, bit_zero, no_bit}
+use Rattle.bits.proofs.Bits.{bit_of_and, bit_pow, bit_without, no_bit}
 use Rattle.bits.proofs.Count.{lowest_set, bit_less, less_lt}
 use Rattle.problem.specs.Table.{constraints_of, constraint_of, no_constraint}
 use Rattle.branch.specs.Held.{root_of}

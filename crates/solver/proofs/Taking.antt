@@ -14,7 +14,7 @@ use Rattle.calculus.specs.Relations.{applies}
 use Rattle.calculus.specs.Relations.{equal, union, disjoint, subset, intersection}
 use Rattle.calculus.specs.Meaning.{Constraint, member, nonmember, same, different, relation, negation, exactly, interval}
 use Rattle.calculus.specs.Branch as calculus
-use Rattle.calculus.specs.Search.{Candidate, candidates, step, next, children}
+use Rattle.calculus.specs.Search.{Candidate, candidates, step, next}
 use Rattle.calculus.specs.Invariants.{WellFormed, ConstraintIn, measure}
 use Rattle.calculus.proofs.Bools.{first_some}
 use Rattle.calculus.proofs.Stepping.{step_fit}

@@ -13,7 +13,6 @@ use Rattle.calculus.specs.Lists.{up_from, picked}
 use Rattle.calculus.specs.Terms.{Term, term}
 use Rattle.calculus.specs.Relations.{equal, union, disjoint, subset, intersection}
 use Rattle.calculus.specs.Meaning.{Constraint, member, nonmember, same, different, relation, negation, exactly, interval}
-use Rattle.calculus.specs.Branch as calculus
 use Rattle.calculus.specs.Search.{step, next}
 use Rattle.calculus.specs.Forms.{record_length, record_of}
 use Rattle.calculus.proofs.Sequences.{index_term}

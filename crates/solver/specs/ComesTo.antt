@@ -1,5 +1,5 @@
 -- What working a branch comes to.
-use Rattle.std.specs.Prelude.{◌≡◌, Bool, false, true, ◌&&◌, List, [], ◌∷◌, map, ℕ, suc, ◌+◌, ◌*◌, ◌-◌, ◌≤◌, ◌<◌, length, get_or}
+use Rattle.std.specs.Prelude.{◌≡◌, Bool, false, true, ◌&&◌, List, map, ℕ, suc, ◌-◌, ◌≤◌, ◌<◌, length, get_or}
 use Rattle.std.proofs.Math.Option.{none}
 use Rattle.calculus.specs.Lists.{up_from, any, gather, picked, bit}
 use Rattle.calculus.specs.Terms.{Term, term, terms_from}
@@ -22,7 +22,7 @@ use Rattle.step.specs.declared.Act.{Act}
 use Rattle.step.specs.declared.Act.TheVariants.{Note, Merge, Close}
 use Rattle.step.specs.Left.{Left}
 use Rattle.quiet.specs.Quiet.{Quiet, pair_mark, mark_word}
-use Rattle.records.specs.State.{State, state, play, state_left, Fine}
+use Rattle.records.specs.State.{State, play, state_left, Fine}
 use Rattle.solver.specs.declared.FoundSplit.{FoundSplit}
 
 -- constraint i is woken by an act: by a note if it needs a literal of the masks, by a merge if two facts of one class can wake it

@@ -25,7 +25,6 @@ use Rattle.branch.proofs.Roots.{root_is}
 use Rattle.places.specs.Places.{InSpan, RuleOf, list_move, move_at}
 use Rattle.places.specs.Alternatives.{slots_of, child_of}
 use Rattle.places.proofs.Slots.{in_spans, assert_one}
-use Rattle.branch.specs.Rows.{literal_count}
 use Rattle.constraints.specs.declared.Constraint.{Constraint}
 use Rattle.constraints.specs.declared.Constraint.TheVariants.{Member, Nonmember, Same as Equated, Different, Related, Negated, Listed}
 use Rattle.constraints.specs.declared.Entries.{Entries}
@@ -36,10 +35,8 @@ use Rattle.constraints.specs.declared.Negation.TheVariants.{Unequal}
 use Rattle.terms.specs.declared.SetVar.{SetVar as CodedSet}
 use Rattle.terms.specs.declared.Term.{Term as CodedTerm}
 use Rattle.constraints.specs.Decoded.{relation_of, decoded, Handled}
-use Rattle.rules.specs.declared.Literal.{Literal as Lit}
 use Rattle.rules.specs.declared.Child.{Child}
-use Rattle.rules.specs.Rows.{numbered, literals_of, count_of, sets, child, only, HasChild}
-use Rattle.fits.specs.Words.{LowChild}
+use Rattle.rules.specs.Rows.{numbered, literals_of, count_of, sets, child, HasChild}
 use Rattle.rules.proofs.Laying.{few, row_counts}
 use Rattle.fits.proofs.TableTests.{row_of_relation}
 use Rattle.fits.proofs.FitLaws.{entries_below, root_own}
@@ -97,10 +94,6 @@ at_case {ps} {l} {m} {j} {h} {c} e = subst (λ (x : Constraint). Somewhere ps x 
 
 pub by_case : {ps : List ℕ} {l m : Constraint} {j h c : ℕ} {a : Act} → l ≡ m → ActsFor ps m j h c a → ActsFor ps l j h c a
 by_case {ps} {l} {m} {j} {h} {c} {a} e = subst (λ (x : Constraint). ActsFor ps x j h c a) (sym e)
-
--- the child of one literal has a row
-pub one_low : {l : Lit} {x : Child} → x ≡ only l → l.0 < literal_count → LowChild x
-one_low e k = subst LowChild (sym e) (k, k, k)
 
 -- ---- a child of a rule on sets
 

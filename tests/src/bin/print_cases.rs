@@ -160,7 +160,7 @@ fn list_of_parts(parts: &[Part], hexadecimal: bool) -> String {
             format!("repeated {times} {}", argument(&list_of_parts(parts, hexadecimal)))
         }
         Part::Words(from, count) => format!("words_from {from} {count}"),
-        Part::Up(from, count) => format!("upFrom {from} {count}"),
+        Part::Up(from, count) => format!("up_from {from} {count}"),
     };
     let joined = |part: &Part| match part {
         Part::Bytes(_) => argument(&shown(part)),
@@ -367,7 +367,7 @@ fn program_row(name: &str, problem: &[Part], hexadecimal: bool) -> Result<Row, S
     let (word, ..) = run(&bytes(problem), budget, listing::ROOM, 4 * budget)?;
     let answer = of_run(word);
     let problem = argument(&list_of_parts(problem, hexadecimal));
-    Ok(Row { comments: Vec::new(), text: format!("pub {name} : program_call {problem} .answer ≡ {answer}"), answer })
+    Ok(Row { comments: Vec::new(), text: format!("pub {name} : (program_call {problem}).answer ≡ {answer}"), answer })
 }
 
 // ---- files
