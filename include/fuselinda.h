@@ -1,6 +1,6 @@
 /*
  * Fuselinda: the two calls of the static library, for C99 and C++. `tools/build` writes it to
- * target/staticlib/libcapi.a. It is for x86-64, level v2 (SSE4.2, POPCNT), and calls nothing but memcpy and memset.
+ * target/staticlib/libcapi.a. It is for x86-64 and calls nothing but memcpy and memset.
  * examples/tablet.c uses both calls; docs/ANSWER.md says more on what they answer.
  */
 #ifndef FUSELINDA_H
