@@ -1,21 +1,20 @@
 -- Where a move applies, each child adds something; and its facts are in range.
-use mathlib.Core.Path.{◌≡◌, refl, sym, ◌∙◌, ap, ap₂, subst, fun_ext}
-use mathlib.Core.Logic.{◌⊎◌, inl, inr, ◌↔◌, ◌≢◌}
-use mathlib.Core.Bool.{Bool, true, false, ◌&&◌, ◌||◌, not, cond, true≢false, false≢true}
-use mathlib.Core.List.{List, [], ◌∷◌, ◌++◌, map}
-use Prim.Native.Nat.{ℕ, zero, suc, ◌+◌, ◌<◌, ◌≤◌}
+use mathlib.Core.Path.{◌≡◌, refl, ◌∙◌, ap}
+use mathlib.Core.Bool.{Bool, true, false, ◌&&◌, ◌||◌, not}
+use mathlib.Core.List.{List, [], ◌∷◌, map}
+use Prim.Native.Nat.{ℕ, ◌<◌}
 use native.Mathlib.Omega.{arith}
 use lib.Dec.{eqb}
-use Rattle.calculus.specs.Terms.{Term, SetVar, term}
-use Rattle.calculus.specs.Lists.{imp, all, any, keep, up_from, Each, gather}
+use Rattle.calculus.specs.Terms.{Term, SetVar}
+use Rattle.calculus.specs.Lists.{imp, all, any, keep, Each}
 use Rattle.calculus.specs.Relations.{Rule, applies, propagation, choice, sound, adds, map_rule, Relation, holds_at, Operand, Literal, propagation_rows, split_rows, negation_row, Negation, unequal, denies, lit_known, rows, operand_of}
 use Rattle.calculus.specs.Relations as R
 use Rattle.calculus.specs.Meaning.{Constraint, member, nonmember, same, different, relation, negation, exactly, interval}
-use Rattle.calculus.specs.Branch.{Branch, root_at, root, inside, outside, Fact, In, Out, Same, known}
-use Rattle.calculus.specs.Search.{Move, fact_of, at, at_roots, distinct, entering, choose, choosing, propagations, splits, roots_of}
+use Rattle.calculus.specs.Branch.{Branch, root_at, root, Fact, In, Out, Same, known}
+use Rattle.calculus.specs.Search.{Move, fact_of, at, at_roots, distinct, entering, choose, choosing, propagations, splits}
 use Rattle.calculus.specs.Invariants.{ConstraintIn}
-use Rattle.calculus.proofs.Bools.{and_l, and_r, and_i, or_cases, or_none_l, or_none_r, imp_at, imp_i, clash, test, not_t, not_f, each_all, all_each, all_map, any_map, each_app, each_left, each_right, each_is_all, each_imp, each_zip, each_map, map_each, each_gather}
-use Rattle.calculus.proofs.Tables.{lit_true, rows_add, negation_add}
+use Rattle.calculus.proofs.Bools.{and_r, or_none_l, or_none_r, imp_i, not_t, each_all, all_each, each_left, each_right, each_is_all, each_imp, each_map, map_each}
+use Rattle.calculus.proofs.Tables.{rows_add, negation_add}
 use Rattle.calculus.proofs.Asserting.{WellFormed, below, still, Ranged}
 use Rattle.calculus.proofs.RuleLaws.{adds_map, known_fact, over_each, each_swap}
 

@@ -1,19 +1,18 @@
 -- The answer word: how many solved forms a run can list, and that every part of the word can be read back.
-use mathlib.Core.Path.{◌≡◌, refl, sym, ◌∙◌, ap, subst}
-use mathlib.Core.Bool.{Bool, true, false, false≢true}
+use mathlib.Core.Path.{◌≡◌, refl, sym, ◌∙◌}
+use mathlib.Core.Bool.{true, false, false≢true}
 use mathlib.Core.Option.{Option, none, some}
 use mathlib.Core.List.{List, [], ◌∷◌, ◌++◌, map}
-use Prim.Native.Nat.{ℕ, zero, suc, ◌+◌, ◌*◌, ◌/◌, ◌%◌, ◌^◌, ◌<◌, ◌≤◌}
+use Prim.Native.Nat.{ℕ, suc, ◌+◌, ◌*◌, ◌<◌, ◌≤◌}
 use native.Mathlib.Omega.{arith}
 use native.Mathlib.Nat.{mul-le-mul, mul-suc}
 use lib.ListN.{length, length-append, length-map}
 use lib.IntN.{pos}
 use Rattle.calculus.specs.Limits.{most_steps}
 use Rattle.calculus.specs.Lists.{Each}
-use Rattle.calculus.specs.Terms.{Term}
 use Rattle.calculus.specs.Branch.{Branch, start}
 use Rattle.calculus.specs.Problem.{Problem, term_count, set_count, constant_terms, values, Valid}
-use Rattle.calculus.specs.Reading.{Parsed, parsed, refused, ◌>>=◌, ask, read}
+use Rattle.calculus.specs.Reading.{Parsed, parsed, refused, ◌>>=◌, read}
 use Rattle.calculus.specs.Check.{read_assignment, assignment_of, lowest}
 use Rattle.calculus.specs.Encoding.{Handed}
 use Rattle.calculus.specs.Calls.{Verdict, FORMS, FALSE, SPENT, NOROOM, Answer, refusal, ended, asked, call, pack, verdict_number, answer_word, Checked, declined, HOLDS, FAILS, checked_by, check, check_word}
@@ -28,7 +27,7 @@ use Rattle.calculus.proofs.ConstraintLaws.{constraints_within}
 use Rattle.calculus.proofs.FirstPlace.{first_place}
 use Rattle.calculus.proofs.StepBounds.{step_bounds}
 use Rattle.calculus.proofs.ReadValid.{read_valid}
-use Rattle.calculus.proofs.CallLaws.{asked_parsed, kept, follows, asks}
+use Rattle.calculus.proofs.CallLaws.{asked_parsed, kept, follows}
 use Rattle.calculus.proofs.Refuses.{refuses}
 use Rattle.calculus.proofs.Parsing.{parsed_refusals, bind_refusals, ask_refusals}
 use Rattle.calculus.proofs.ReadAssignment.{assignment_refusals}

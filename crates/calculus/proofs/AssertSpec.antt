@@ -1,25 +1,24 @@
 -- Asserting a fact gives the branch with that fact and what it unites, or says that it conflicts.
 use mathlib.Core.Path.{◌≡◌, refl, sym, ◌∙◌, ap, ap₂, subst}
 use mathlib.Core.Logic.{◌↔◌, ◌≢◌, ◌⊎◌, inl, inr}
-use mathlib.Core.Bool.{Bool, true, false, ◌&&◌, ◌||◌, cond, false≢true}
+use mathlib.Core.Bool.{Bool, true, false, ◌&&◌, ◌||◌, false≢true}
 use mathlib.Core.Option.{Option, none, some}
-use mathlib.Core.List.{List, [], ◌∷◌}
-use Prim.Native.Nat.{ℕ, zero, suc, ◌+◌, ◌<◌, ◌≤◌}
+use mathlib.Core.List.{List}
+use Prim.Native.Nat.{ℕ, ◌<◌}
 use native.Mathlib.Omega.{arith}
 use native.Mathlib.Decide.{ℕ_discrete}
-use lib.ListN.{length}
-use lib.Dec.{eqb, ltb}
-use borrow.Author.Tests.{eqb-true, eq-eqb, ltb-true, lt-ltb}
+use lib.Dec.{eqb}
+use borrow.Author.Tests.{eqb-true, eq-eqb}
 use Rattle.calculus.specs.Terms.{Term, SetVar, term}
 use Rattle.calculus.proofs.AtNumber.{inside_at, outside_at, add_in, add_out, merge_at, torn_at, owns_at, merge_roots_at, set_eqb, eqb_set, same_index}
-use Rattle.calculus.specs.Branch.{Branch, start, root_at, inside, outside, Fact, In, Out, Same, known, add_inside, add_outside, merge, torn, owns, conflict_if, merge_roots, assert}
+use Rattle.calculus.specs.Branch.{Branch, root_at, Fact, In, Out, Same, known, assert}
 use Rattle.calculus.specs.Order.{KnownIn, KnownOut, OneClass, Then, Conflicts, Ranged, Reached, begun, asserted}
 use Rattle.calculus.specs.Demands.{Asserts}
 use Rattle.calculus.proofs.Bools.{and_l, and_r, and_i, or_cases, or_l, or_r, or_none_l, or_none_r, test}
 use Rattle.calculus.proofs.Truth.{is_some, some_is}
 use Rattle.calculus.specs.Lists.{Some}
 use Rattle.calculus.proofs.Walk.{moved, moved_hi, moved_other}
-use Rattle.calculus.proofs.Asserting.{WellFormed, owned, owning, inside_add_inside, outside_add_inside, root_add_inside, inside_add_outside, outside_add_outside, root_add_outside, inside_merge, outside_merge, below, still, conflict_if_some, conflict_if_none, Merges, already, upper, lower, merges, torn_some, torn_none, root_below, moves, root_in_insides, root_in_outsides}
+use Rattle.calculus.proofs.Asserting.{WellFormed, owned, owning, inside_add_inside, outside_add_inside, root_add_inside, inside_add_outside, outside_add_outside, root_add_outside, inside_merge, outside_merge, below, still, conflict_if_some, conflict_if_none, Merges, already, upper, lower, merges, torn_some, torn_none, moves, root_in_insides, root_in_outsides}
 use Rattle.calculus.proofs.Keeping.{assert_fit}
 use Rattle.calculus.proofs.Start.{start_fit}
 

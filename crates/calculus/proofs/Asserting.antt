@@ -1,29 +1,28 @@
 -- Asserting a fact: what it does to a branch, that it keeps what values satisfy, and that it conflicts only where none do.
 use mathlib.Core.Path.{◌≡◌, refl, sym, ◌∙◌, ap, ap₂, subst}
-use mathlib.Core.Logic.{◌⊎◌, inl, inr, ◌↔◌, ◌≢◌}
-use mathlib.Core.Bool.{Bool, true, false, ◌&&◌, ◌||◌, not, cond, true≢false, false≢true}
+use mathlib.Core.Logic.{◌⊎◌, inl, inr, ◌≢◌}
+use mathlib.Core.Bool.{Bool, true, false, ◌&&◌, ◌||◌, not, false≢true}
 use mathlib.Core.Option.{Option, none, some}
-use mathlib.Core.List.{List, [], ◌∷◌, ◌++◌, map}
-use Prim.Native.Nat.{ℕ, zero, suc, ◌+◌, ◌^◌, ◌<◌, ◌≤◌, min, max, zero-le, suc-le-suc}
+use mathlib.Core.List.{List, [], ◌∷◌}
+use Prim.Native.Nat.{ℕ, ◌^◌, ◌<◌, ◌≤◌, min, max}
 use native.Mathlib.Omega.{arith}
 use native.Mathlib.Decide.{ℕ_discrete, dec_le}
-use native.Mathlib.Nat.{le_of_suc-le-suc, not-suc-le-zero, le_trans, lt_of_le_of_lt}
-use lib.ListN.{length, get_or, set, length-set, length-map, get_or-eq_default}
-use lib.Dec.{eqb, ltb}
-use lib.Bits.{bit_or, bit_and}
-use lib.IntN.{ℤ, pos, negsuc}
-use borrow.Author.Tests.{eqb-true, eqb-false, eq-eqb, ne_eqb, ltb-true, ltb-false}
+use lib.ListN.{length, get_or}
+use lib.Dec.{eqb}
+use lib.Bits.{bit_and}
+use lib.IntN.{ℤ}
+use borrow.Author.Tests.{eqb-true, eq-eqb, ne_eqb}
 use Rattle.calculus.specs.Terms.{Term, SetVar, term, set_var}
 use Rattle.calculus.proofs.AtNumber.{inside_at, outside_at, add_in, add_out, merge_at, torn_at, owns_at, merge_roots_at, set_eqb}
 use Rattle.calculus.specs.Lists.{bit, any}
 use Rattle.calculus.specs.Meaning.{Valuation}
 pub use Rattle.calculus.specs.Order.{Ranged}
 pub use Rattle.calculus.specs.Invariants.{WellFormed, Is}
-use Rattle.calculus.specs.Branch.{Branch, walk, root_at, inside, outside, Fact, In, Out, Same, known, add_inside, add_outside, merge, torn, owns, conflict_if, merge_roots, assert, assert_all}
-use Rattle.calculus.proofs.Bools.{and_l, and_r, and_i, or_cases, or_l, or_r, or_none_l, or_none_r, not_t, not_f, clash, test}
+use Rattle.calculus.specs.Branch.{Branch, walk, root_at, inside, outside, Fact, In, Out, Same, known, add_inside, add_outside, merge, torn, conflict_if, assert}
+use Rattle.calculus.proofs.Bools.{and_l, and_r, or_cases, or_l, or_r, not_t, not_f, clash}
 use Rattle.calculus.proofs.Masks.{bit_of_and, bit_pow, bit_zero, some_bit, add_at}
 use Rattle.calculus.proofs.Walk.{moved, moved_hi, moved_other, walk_le, walk_root, root_walk, walk_set}
-use Rattle.calculus.proofs.Truth.{eq_z, eq_z_eq, eq_eq_z, has, truth, Sat, Distinct}
+use Rattle.calculus.proofs.Truth.{eq_z_eq, eq_eq_z, has, truth, Sat, Distinct}
 
 -- ---- what add_inside, add_outside and merge do
 

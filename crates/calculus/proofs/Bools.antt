@@ -1,14 +1,14 @@
 -- Laws of tests, of `all` and `any`, and tests over all Booleans.
 use mathlib.Core.Path.{◌≡◌, refl, sym, ◌∙◌, ap, subst, fun_ext}
 use mathlib.Core.Logic.{◌⊎◌, inl, inr}
-use mathlib.Core.Bool.{Bool, true, false, ◌&&◌, ◌||◌, not, cond, true≢false, false≢true}
+use mathlib.Core.Bool.{Bool, true, false, ◌&&◌, ◌||◌, not, true≢false, false≢true}
 use mathlib.Core.Option.{Option, none, some}
 use mathlib.Core.List.{List, [], ◌∷◌, ◌++◌, map}
-use Prim.Native.Nat.{ℕ, zero, suc, ◌+◌}
+use Prim.Native.Nat.{ℕ, zero, suc}
 use lib.ListN.{take}
 use lib.Dec.{eqb}
 use borrow.Author.Tests.{eqb-true, eq-eqb}
-use Rattle.calculus.specs.Lists.{imp, all, any, first, keep, Each, Some, here, there, gather, picked}
+use Rattle.calculus.specs.Lists.{imp, all, any, first, Each, gather}
 
 pub and_l : (a b : Bool) → (a && b) ≡ true → a ≡ true
 and_l true b e = refl

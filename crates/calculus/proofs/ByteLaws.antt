@@ -1,6 +1,6 @@
 -- What a call leaves in the buffers is bytes.
-use mathlib.Core.Path.{◌≡◌, refl, sym, ◌∙◌, ap, subst}
-use mathlib.Core.List.{List, [], ◌∷◌, ◌++◌}
+use mathlib.Core.Path.{◌≡◌, refl, sym, subst}
+use mathlib.Core.List.{List, [], ◌∷◌}
 use Prim.Native.Nat.{ℕ, zero, suc, ◌+◌, ◌*◌, ◌^◌, ◌<◌, ◌≤◌}
 use native.Mathlib.Omega.{arith}
 use native.Mathlib.Nat.{le_trans, pow-le-pow_right}
@@ -8,18 +8,17 @@ use lib.ListN.{length, drop}
 use Rattle.calculus.specs.Limits.{most_sets}
 use Rattle.calculus.specs.Lists.{Each}
 use Rattle.calculus.specs.Branch.{Branch, start, root_at}
-use Rattle.calculus.specs.Search.{Next, solved, step, next}
+use Rattle.calculus.specs.Search.{step, next}
 use Rattle.calculus.specs.Problem.{Problem, term_count, set_count, constant_terms, Valid}
 use Rattle.calculus.specs.Encoding.{Bytes}
 use Rattle.calculus.specs.Forms.{record_from, record_of}
-use Rattle.calculus.specs.Run.{Event, formed, stepped, log, Tally, tally, run}
+use Rattle.calculus.specs.Run.{Event, formed, stepped, log, tally, run}
 use Rattle.calculus.specs.Reading.{Parsed, parsed, refused}
-use Rattle.calculus.specs.Calls.{over, asked, answered, call}
+use Rattle.calculus.specs.Calls.{over, asked, call}
 use Rattle.calculus.specs.Demands.{Bytewise}
 use Rattle.calculus.proofs.Tallying.{tally_by}
 use Rattle.calculus.proofs.Bools.{each_app}
-use Rattle.calculus.proofs.Asserting.{WellFormed, below}
-use Rattle.calculus.proofs.MaskBounds.{Small}
+use Rattle.calculus.proofs.Asserting.{below}
 use Rattle.calculus.proofs.ConstraintLaws.{constraints_within}
 use Rattle.calculus.proofs.StepBounds.{step_bounds}
 use Rattle.calculus.proofs.LogEvents.{log_each}

@@ -1,20 +1,20 @@
 -- The demands that follow from the run's laws.
-use mathlib.Core.Path.{◌≡◌, refl, sym, ◌∙◌, ap, ap₂, subst}
-use mathlib.Core.Logic.{◌↔◌, ◌≢◌, ◌⊎◌, inl, inr}
-use mathlib.Core.Bool.{Bool, true, false, cond, false≢true}
-use mathlib.Core.List.{List, [], ◌∷◌, ◌++◌, map, append_assoc, append-nil}
-use Prim.Native.Nat.{ℕ, zero, suc, ◌+◌, ◌*◌, ◌<◌, ◌≤◌, zero-le}
+use mathlib.Core.Path.{◌≡◌, refl, sym, ◌∙◌, ap, subst}
+use mathlib.Core.Logic.{◌↔◌, ◌⊎◌, inl, inr}
+use mathlib.Core.Bool.{Bool, true, false, false≢true}
+use mathlib.Core.List.{List, [], ◌∷◌, ◌++◌}
+use Prim.Native.Nat.{ℕ, zero, suc, ◌*◌, ◌<◌, ◌≤◌, zero-le}
 use native.Mathlib.Omega.{arith}
-use native.Mathlib.Nat.{le_of_eq, suc-mul, zero-mul}
+use native.Mathlib.Nat.{suc-mul, zero-mul}
 use lib.ListN.{length, length-append, take, drop, length-drop}
 use lib.Seq.{take_at, drop_at, take-append-le, drop-append-le}
 use lib.Dec.{leb}
 use lib.IntN.{ℤ}
-use borrow.Author.Tests.{leb-true, le-leb, lt-leb, eq-eqb, eqb-true}
+use borrow.Author.Tests.{leb-true, le-leb, lt-leb}
 use Rattle.calculus.specs.Limits.{most_steps}
 use Rattle.calculus.specs.Terms.{Term}
-use Rattle.calculus.specs.Lists.{Each, Some, here, there, gather, first}
-use Rattle.calculus.specs.Relations.{applies, Negation, unequal, denies}
+use Rattle.calculus.specs.Lists.{Each, Some, first}
+use Rattle.calculus.specs.Relations.{applies}
 use mathlib.Core.Option.{Option, none, some}
 use Rattle.calculus.specs.Meaning.{Constraint}
 use Rattle.calculus.specs.Branch.{Branch, start, known}
@@ -24,11 +24,10 @@ use Rattle.calculus.specs.Problem.{set_count, Problem, term_count, constant_term
 use Rattle.calculus.specs.Run.{Event, formed, stepped, log, Tally, stop, list_form, take_step, tally, run}
 use Rattle.calculus.specs.Forms.{record_of, record_length, listed_forms, Agrees, SatisfiesForm}
 use Rattle.calculus.specs.Run as R
-use Rattle.calculus.specs.Reading.{Parsed, parsed, refused, ◌>>=◌, ask, read}
-use Rattle.calculus.specs.Calls.{Verdict, FORMS, FALSE, SPENT, NOROOM, Answer, refusal, ended, Outcome, verdict_of, over, asked, outcome_left, answered, call}
-use Rattle.calculus.specs.Order.{Progress, Works}
+use Rattle.calculus.specs.Reading.{parsed, refused, ◌>>=◌, ask, read}
+use Rattle.calculus.specs.Calls.{Verdict, FORMS, FALSE, SPENT, NOROOM, refusal, ended, verdict_of, over, asked, call}
 use Rattle.calculus.specs.Demands.{Follows, SameSolutions, Stops, Kept}
-use Rattle.calculus.proofs.Bools.{each_is_all, each_imp, each_app}
+use Rattle.calculus.proofs.Bools.{each_is_all}
 use Rattle.calculus.proofs.Solutions.{some_any, some_imp, any_witness}
 use Rattle.calculus.proofs.RecordFields.{record_is_long}
 use Rattle.calculus.proofs.Tallying.{tally_by}

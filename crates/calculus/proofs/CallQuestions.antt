@@ -3,17 +3,17 @@ use mathlib.Core.Path.{◌≡◌, refl, sym, ◌∙◌, ap, subst}
 use mathlib.Core.Bool.{true, false, false≢true}
 use mathlib.Core.Option.{Option, none, some}
 use mathlib.Core.List.{List}
-use Prim.Native.Nat.{ℕ, ◌*◌, ◌<◌, ◌≤◌}
+use Prim.Native.Nat.{ℕ, ◌*◌, ◌<◌}
 use native.Mathlib.Omega.{arith}
 use native.Mathlib.Decide.{dec_lt}
 use lib.IntN.{pos}
 use Rattle.calculus.specs.Limits.{most_steps}
 use Rattle.calculus.specs.Problem.{Problem, values}
-use Rattle.calculus.specs.Encoding.{Bytes, Handed, WrittenAssignment}
+use Rattle.calculus.specs.Encoding.{Bytes, Handed}
 use Rattle.calculus.specs.Reading.{Parsed, parsed, refused, ◌>>=◌, read}
 use Rattle.calculus.specs.Check.{read_assignment, assignment_of, lowest}
 use Rattle.calculus.specs.Questions.{of_problem, FirstNoOfRun, over_budget, short_trace, FirstNoOfCheck, no_assignment}
-use Rattle.calculus.specs.Calls.{asked, Checked, declined, checked_by, check}
+use Rattle.calculus.specs.Calls.{asked, declined, checked_by, check}
 use Rattle.calculus.specs.Demands.{Refusals}
 use Rattle.calculus.proofs.ReadsWritten.{reads}
 use Rattle.calculus.proofs.Questions.{questions}

@@ -1,24 +1,22 @@
 -- The assignment check's tests are the constraints' meanings.
-use mathlib.Core.Path.{◌≡◌, refl, sym, ◌∙◌, ap, subst}
-use mathlib.Core.Logic.{◌⊎◌, inl, inr, ◌↔◌}
-use mathlib.Core.Bool.{Bool, true, false, ◌&&◌, ◌||◌, not, true≢false, false≢true}
-use mathlib.Core.Option.{Option, none, some}
+use mathlib.Core.Path.{◌≡◌, refl}
+use mathlib.Core.Logic.{◌⊎◌, inl, inr}
+use mathlib.Core.Bool.{Bool, true, false, ◌&&◌, not, false≢true}
 use mathlib.Core.List.{List, [], ◌∷◌, map}
-use Prim.Native.Nat.{ℕ, zero, suc, ◌+◌, ◌<◌, ◌≤◌}
-use native.Mathlib.Omega.{arith}
+use Prim.Native.Nat.{ℕ, ◌<◌}
 use lib.ListN.{length, get_or}
 use lib.IntN.{ℤ, pos}
 use Rattle.calculus.specs.Terms.{Term, SetVar, term}
 use Rattle.calculus.specs.Lists.{all, Each}
-use Rattle.calculus.specs.Relations.{Relation, holds_at, Negation, unequal, denies}
+use Rattle.calculus.specs.Relations.{Relation, holds_at, denies}
 use Rattle.calculus.specs.Meaning.{Constraint, member, nonmember, same, different, relation, negation, exactly, interval, ◌∈◌, Valuation, Relates, Holds}
-use Rattle.calculus.specs.Check.{has, relates?, exactly?, holds?, lowest}
+use Rattle.calculus.specs.Check.{has, relates?, exactly?, holds?}
 use Rattle.calculus.specs.Problem.{Problem, Valid}
 use Rattle.calculus.proofs.ConstraintLaws.{InScope}
-use Rattle.calculus.proofs.Bools.{and_l, and_r, and_i, clash, test, each_all, all_each, not_f}
+use Rattle.calculus.proofs.Bools.{and_l, and_r, and_i, test, all_each}
 use Rattle.calculus.proofs.Tables.{relation_none}
 use Rattle.calculus.proofs.Truth.{eq_z, Reflects, is, isnt, reflects, eq_z_eq, eq_eq_z, has_in, in_has, relates_test, test_relates}
-use Rattle.calculus.proofs.RuleLaws.{Lists, Meant}
+use Rattle.calculus.proofs.RuleLaws.{Lists}
 use Rattle.calculus.proofs.ConstraintLaws.{all_in, interval_lists, images_in}
 
 -- a test that is true exactly where the statement is

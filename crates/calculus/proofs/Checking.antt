@@ -1,21 +1,20 @@
 -- The assignment check answers HOLDS exactly where the assignment satisfies the problem, and otherwise the lowest constraint that fails.
 use mathlib.Core.Path.{◌≡◌, refl, sym, ◌∙◌, ap, subst}
-use mathlib.Core.Logic.{◌↔◌, ◌⊎◌, inl, inr}
 use mathlib.Core.Bool.{Bool, true, false, false≢true}
 use mathlib.Core.Option.{Option, none, some}
 use mathlib.Core.List.{List, [], ◌∷◌}
-use Prim.Native.Nat.{ℕ, zero, suc, ◌+◌, ◌<◌, ◌≤◌}
+use Prim.Native.Nat.{ℕ, zero, suc, ◌+◌, ◌<◌}
 use native.Mathlib.Omega.{arith}
 use native.Mathlib.Decide.{dec_lt}
 use lib.ListN.{length, get_or}
-use lib.IntN.{ℤ, pos}
+use lib.IntN.{pos}
 use Rattle.calculus.specs.Terms.{term, set_var}
 use Rattle.calculus.specs.Lists.{Each}
 use Rattle.calculus.specs.Meaning.{Constraint, member, Valuation, Holds}
-use Rattle.calculus.specs.Check.{read_assignment, assignment_of, holds?, lowest}
-use Rattle.calculus.specs.Problem.{Problem, Valid, Assignment, values, Satisfies}
-use Rattle.calculus.specs.Reading.{Parsed, parsed, refused, ◌>>=◌, read}
-use Rattle.calculus.specs.Calls.{Checked, declined, HOLDS, FAILS, checked_by, check}
+use Rattle.calculus.specs.Check.{assignment_of, holds?, lowest}
+use Rattle.calculus.specs.Problem.{Problem, Valid, values}
+use Rattle.calculus.specs.Reading.{parsed, ◌>>=◌}
+use Rattle.calculus.specs.Calls.{HOLDS, FAILS, checked_by, check}
 use Rattle.calculus.specs.Demands.{Checks}
 use Rattle.calculus.proofs.Truth.{Reflects, is, isnt, yes_of}
 use Rattle.calculus.proofs.CheckLaws.{holds_is}

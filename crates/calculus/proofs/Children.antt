@@ -1,16 +1,16 @@
 -- Asserting a list of facts, and the children of a step.
-use mathlib.Core.Path.{◌≡◌, refl, sym, ◌∙◌, ap, ap₂, subst}
-use mathlib.Core.Logic.{◌⊎◌, inl, inr, ◌↔◌, ◌≢◌}
-use mathlib.Core.Bool.{Bool, true, false, ◌&&◌, ◌||◌, not, cond, true≢false, false≢true}
+use mathlib.Core.Path.{◌≡◌, refl, sym, ◌∙◌, subst}
+use mathlib.Core.Logic.{◌⊎◌, inl, inr}
+use mathlib.Core.Bool.{true, false, true≢false, false≢true}
 use mathlib.Core.Option.{Option, none, some}
-use mathlib.Core.List.{List, [], ◌∷◌, ◌++◌, map}
-use Prim.Native.Nat.{ℕ, zero, suc, ◌+◌, ◌<◌, ◌≤◌}
+use mathlib.Core.List.{List, [], ◌∷◌}
+use Prim.Native.Nat.{ℕ, ◌<◌, ◌≤◌}
 use native.Mathlib.Omega.{arith}
 use Rattle.calculus.specs.Terms.{Term}
 use Rattle.calculus.specs.Lists.{all, any, Each, Some, here, there, picked}
 use Rattle.calculus.specs.Meaning.{Valuation}
 use Rattle.calculus.specs.Branch.{Branch, Fact, known, assert, assert_all}
-use Rattle.calculus.proofs.Bools.{and_l, and_r, and_i, or_cases, clash, test, all_cong}
+use Rattle.calculus.proofs.Bools.{and_l, and_r, or_cases, test, all_cong}
 use Rattle.calculus.proofs.Truth.{truth, Sat, Distinct}
 use Rattle.calculus.proofs.Asserting.{WellFormed, Ranged, assert_keeps, assert_stops}
 use Rattle.calculus.proofs.Keeping.{assert_fit}

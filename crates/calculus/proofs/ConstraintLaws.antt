@@ -1,26 +1,25 @@
 -- A valid problem's constraints: in range; their meanings with and without witnesses.
 use mathlib.Core.Path.{◌≡◌, refl, sym, ◌∙◌, ap, ap₂, subst}
-use mathlib.Core.Logic.{◌⊎◌, inl, inr, ◌↔◌, ◌≢◌}
-use mathlib.Core.Bool.{Bool, true, false, ◌&&◌, ◌||◌, not, cond, true≢false, false≢true}
-use mathlib.Core.List.{List, [], ◌∷◌, ◌++◌, map}
-use Prim.Native.Nat.{ℕ, zero, suc, ◌+◌, ◌-◌, ◌*◌, ◌<◌, ◌≤◌, zero-le, suc-le-suc}
+use mathlib.Core.Logic.{◌⊎◌, inl, inr, ◌↔◌}
+use mathlib.Core.Bool.{Bool, true, false, ◌&&◌, cond, false≢true}
+use mathlib.Core.List.{List, [], ◌∷◌, map}
+use Prim.Native.Nat.{ℕ, zero, suc, ◌+◌, ◌-◌, ◌<◌, ◌≤◌}
 use native.Mathlib.Omega.{arith}
-use native.Mathlib.Decide.{dec_lt, dec_le, ℕ_discrete}
 use native.Mathlib.Nat.{le_refl}
 use lib.ListN.{length, get_or}
-use lib.Dec.{T, eqb, ltb, leb, leb→le, le→leb, ltb→lt}
-use lib.IntN.{ℤ, pos, negsuc}
-use lib.Signed.{◌≤ℤ◌, ◌<ℤ◌, lt_z, le_z, ≤ℤ_refl, <ℤ-≤ℤ_trans, <ℤ_irrefl, clash_ℤ, mag}
+use lib.Dec.{eqb}
+use lib.IntN.{ℤ, pos}
+use lib.Signed.{◌≤ℤ◌}
 use borrow.Author.Tests.{eqb-true, eq-eqb, ne_eqb, lt-ltb, le-ltb}
 use Rattle.calculus.specs.Terms.{Term, SetVar, term, terms_from}
-use Rattle.calculus.specs.Lists.{all, any, up_from, Each}
-use Rattle.calculus.specs.Relations.{Relation, holds_at, Negation, unequal, denies}
+use Rattle.calculus.specs.Lists.{all, any, Each}
+use Rattle.calculus.specs.Relations.{Relation, holds_at, denies}
 use Rattle.calculus.specs.Meaning.{Constraint, member, nonmember, same, different, relation, negation, exactly, interval, ◌∈◌, Valuation, Relates, Holds}
-use Rattle.calculus.specs.Problem.{set_count, Problem, nameable, term_count, Assignment, value_of, values, Satisfies, constant_terms, Rising, entries, Refers, uses, Tied, Numbered, Valid}
+use Rattle.calculus.specs.Problem.{set_count, Problem, nameable, term_count, Assignment, values, Satisfies, constant_terms, entries, Refers, uses, Tied, Numbered, Valid}
 use Rattle.calculus.specs.Invariants.{ConstraintIn}
-use Rattle.calculus.proofs.Bools.{and_l, and_r, and_i, or_cases, clash, test, each_all, all_each, each_imp, each_zip}
+use Rattle.calculus.proofs.Bools.{and_l, and_r, and_i, or_cases, clash, test, each_imp, each_zip}
 use Rattle.calculus.proofs.Tables.{relation_none}
-use Rattle.calculus.proofs.Truth.{has, has_in, in_has, relates_test, test_relates, Is, Distinct}
+use Rattle.calculus.proofs.Truth.{has, has_in, relates_test, test_relates, Is, Distinct}
 use Rattle.calculus.proofs.RuleLaws.{Lists, Meant}
 use Rattle.calculus.proofs.Sequences.{terms_each, terms_at, place_of, from_image, image_of}
 use Rattle.calculus.proofs.Integers.{rising_le, le_rising, rising_inj}

@@ -15,7 +15,7 @@ use Rattle.calculus.specs.Branch.{Branch, assert_all}
 use Rattle.calculus.specs.Search.{next, Move, propagations, splits, roots_of, Candidate, candidates, places, solved, step, taken}
 use Rattle.calculus.specs.Problem.{Problem, term_count, constant_terms}
 use Rattle.calculus.specs.Run.{next_of}
-use Rattle.calculus.specs.Order.{Place, Before, Fires, Leaves, Enabled, Solved, StepOf}
+use Rattle.calculus.specs.Order.{Place, Before, Fires, Enabled, Solved, StepOf}
 use Rattle.calculus.specs.Demands.{Ordered, FirstPlace}
 use Rattle.calculus.proofs.ChildrenLeft.{children}
 use Rattle.calculus.proofs.Enumerating.{before_phase, before_constraint, Where, candidate, Placed, passes, Fits, Enum, enum_nil, enum_join, Lists}

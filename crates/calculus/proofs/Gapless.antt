@@ -1,16 +1,14 @@
 -- Question 9: of rising constants, the test passes exactly where every whole number between two of them is one of them.
-use mathlib.Core.Path.{◌≡◌, refl, sym, ◌∙◌, ap, subst}
+use mathlib.Core.Path.{◌≡◌, sym, ◌∙◌, ap, subst}
 use mathlib.Core.Logic.{◌⊎◌, inl, inr}
 use mathlib.Core.Bool.{true}
-use mathlib.Core.List.{List, [], ◌∷◌}
-use Prim.Native.Nat.{ℕ, zero, suc, ◌+◌, ◌-◌, ◌<◌, ◌≤◌, zero-le, suc-le-suc}
+use mathlib.Core.List.{List}
+use Prim.Native.Nat.{ℕ, zero, suc, ◌+◌, ◌-◌, ◌<◌, ◌≤◌}
 use native.Mathlib.Omega.{arith}
-use native.Mathlib.Decide.{dec_lt, dec_le, ℕ_discrete}
-use native.Mathlib.Nat.{le_of_suc-le-suc}
+use native.Mathlib.Decide.{dec_lt}
 use lib.ListN.{length, get_or}
-use lib.Dec.{T, leb→le, le→leb}
-use lib.IntN.{ℤ, pos, negsuc, suc_ℤ}
-use lib.Signed.{◌≤ℤ◌, ◌<ℤ◌, le_z, lt_z, ≤ℤ_refl, <ℤ-≤ℤ_trans, clash_ℤ}
+use lib.IntN.{ℤ, pos, suc_ℤ}
+use lib.Signed.{◌≤ℤ◌, ◌<ℤ◌, <ℤ-≤ℤ_trans, clash_ℤ}
 use Rattle.calculus.specs.Lists.{up_from, Each}
 use Rattle.calculus.specs.Meaning.{◌∈◌}
 use Rattle.calculus.specs.Reading.{eq_z, gapless}

@@ -1,26 +1,22 @@
 -- Asserting a fact keeps a branch sound.
-use mathlib.Core.Path.{◌≡◌, refl, sym, ◌∙◌, ap, ap₂, subst}
-use mathlib.Core.Logic.{◌⊎◌, inl, inr, ◌↔◌, ◌≢◌}
-use mathlib.Core.Bool.{Bool, true, false, ◌&&◌, ◌||◌, not, cond, true≢false, false≢true, or-false, and_comm}
-use mathlib.Core.Option.{Option, none, some}
-use mathlib.Core.List.{List, [], ◌∷◌, ◌++◌, map}
-use Prim.Native.Nat.{ℕ, zero, suc, ◌+◌, ◌^◌, ◌<◌, ◌≤◌, min, max, zero-le, suc-le-suc}
+use mathlib.Core.Path.{◌≡◌, refl, sym, ◌∙◌, ap, subst}
+use mathlib.Core.Bool.{Bool, true, false, ◌&&◌, ◌||◌, or-false, and_comm}
+use mathlib.Core.Option.{Option, some}
+use mathlib.Core.List.{List}
+use Prim.Native.Nat.{ℕ, ◌^◌, ◌<◌}
 use native.Mathlib.Omega.{arith}
-use native.Mathlib.Decide.{ℕ_discrete, dec_le}
-use native.Mathlib.Nat.{le_refl}
-use lib.ListN.{length, get_or, set, length-set, length-map, replicate, length-replicate, get_or-replicate}
-use lib.Dec.{eqb, ltb}
-use lib.Bits.{bit_or, bit_and}
-use borrow.Author.Tests.{eqb-true, eqb-false, eq-eqb, ne_eqb, ltb-true, ltb-false}
+use native.Mathlib.Decide.{ℕ_discrete}
+use lib.ListN.{get_or, length-set}
+use lib.Dec.{eqb}
+use lib.Bits.{bit_or}
+use borrow.Author.Tests.{eqb-true, ne_eqb}
 use Rattle.calculus.specs.Terms.{Term, SetVar}
 use Rattle.calculus.proofs.AtNumber.{inside_at, outside_at, add_in, add_out, merge_at, torn_at, owns_at, merge_roots_at, set_eqb}
-use Rattle.calculus.specs.Lists.{bit, up_from}
-use Rattle.calculus.specs.Branch.{Branch, start, root_at, inside, outside, Fact, In, Out, Same, known, add_inside, add_outside, merge, torn, owns, conflict_if, merge_roots, assert, assert_all}
-use Rattle.calculus.proofs.Bools.{and_l, and_r, and_i, or_cases, or_none_l, or_none_r, not_t, not_f, clash, test}
-use Rattle.calculus.proofs.Masks.{bit_zero}
+use Rattle.calculus.specs.Branch.{Branch, root_at, Fact, In, Out, Same, known, add_inside, add_outside, merge, assert}
+use Rattle.calculus.proofs.Bools.{and_l, and_r, and_i, or_none_l, or_none_r, clash}
 use Rattle.calculus.proofs.Truth.{Is}
 use Rattle.calculus.proofs.Walk.{moved, moved_hi, moved_other, set_falls}
-use Rattle.calculus.proofs.Asserting.{owning, WellFormed, Ranged, Merges, already, upper, lower, merges, inside_add_inside, outside_add_inside, root_add_inside, inside_add_outside, outside_add_outside, root_add_outside, inside_merge, outside_merge, below, still, root, root_merge, torn_none, conflict_if_some, root_below, root_in_insides, root_in_outsides}
+use Rattle.calculus.proofs.Asserting.{owning, WellFormed, Ranged, Merges, already, upper, lower, merges, inside_add_inside, outside_add_inside, root_add_inside, inside_add_outside, outside_add_outside, root_add_outside, inside_merge, outside_merge, below, still, root, root_merge, torn_none, conflict_if_some}
 
 -- one more bit on one side, where the other side has it not
 one_more : (i o p : Bool) → (i && o) ≡ false → (p ≡ true → o ≡ false) → ((i || p) && o) ≡ false

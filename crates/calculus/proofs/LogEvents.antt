@@ -1,6 +1,6 @@
 -- What the start has and every step keeps, every event of a log has.
 use mathlib.Core.Path.{◌≡◌, refl}
-use mathlib.Core.List.{List, [], ◌∷◌, ◌++◌}
+use mathlib.Core.List.{List, [], ◌∷◌}
 use Prim.Native.Nat.{ℕ, zero, suc}
 use Rattle.calculus.specs.Lists.{Each, gather}
 use Rattle.calculus.specs.Terms.{Term}

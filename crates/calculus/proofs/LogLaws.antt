@@ -1,30 +1,25 @@
 -- The search as a tree: values that satisfy its root branch satisfy a solved form; every form is saturated.
-use mathlib.Core.Path.{◌≡◌, refl, sym, ◌∙◌, ap, ap₂, subst, fun_ext}
-use mathlib.Core.Logic.{◌⊎◌, inl, inr, ◌↔◌, ◌≢◌}
-use mathlib.Core.Bool.{Bool, true, false, ◌&&◌, ◌||◌, not, cond, true≢false, false≢true}
-use mathlib.Core.Option.{Option, none, some}
-use mathlib.Core.List.{List, [], ◌∷◌, ◌++◌, map}
-use Prim.Native.Nat.{ℕ, zero, suc, ◌+◌, ◌*◌, ◌<◌, ◌≤◌, zero-le, suc-le-suc, max}
+use mathlib.Core.Path.{◌≡◌, refl, sym, ap, subst}
+use mathlib.Core.Logic.{◌⊎◌, inl, inr}
+use mathlib.Core.List.{List, [], ◌∷◌, ◌++◌}
+use Prim.Native.Nat.{ℕ, zero, suc, ◌<◌, ◌≤◌, zero-le, suc-le-suc}
 use native.Mathlib.Omega.{arith}
-use lib.ListN.{length, get_or, replicate, length-replicate, get_or-replicate, get_or-eq_default}
-use lib.Dec.{eqb}
-use borrow.Author.Tests.{eqb-true, eq-eqb}
+use borrow.Author.Tests.{eq-eqb}
 use Rattle.calculus.specs.Terms.{Term, SetVar}
-use Rattle.calculus.specs.Lists.{bit, up_from, first, Each, Some, here, there, gather}
+use Rattle.calculus.specs.Lists.{Each, Some, here, there, gather}
 use Rattle.calculus.specs.Meaning.{Constraint, member, nonmember, same, different, relation, negation, exactly, interval, Valuation}
 use Rattle.calculus.specs.Relations.{Rule, Literal, Operand, propagation_rows, split_rows, operand_of}
-use Rattle.calculus.specs.Branch.{Branch, start, root_at, inside, outside, Fact, In, Out, Same, known}
-use Rattle.calculus.specs.Search.{Move, at_roots, propagations, splits, places, roots_of, candidates, Candidate, Next, solved, step, next}
+use Rattle.calculus.specs.Branch.{Branch, root_at}
+use Rattle.calculus.specs.Search.{Move, at_roots, propagations, splits, candidates, Next, solved, step, next}
 use Rattle.calculus.specs.Run.{Event, formed, stepped, log}
 use Rattle.calculus.specs.Invariants.{ConstraintIn}
 use Rattle.calculus.proofs.BranchForms.{forms_of}
-use Rattle.calculus.proofs.Bools.{clash, each_app, each_imp, each_zip}
-use Rattle.calculus.proofs.Masks.{bit_zero}
-use Rattle.calculus.proofs.Truth.{truth, Sat, Distinct, eq_eq_z}
+use Rattle.calculus.proofs.Bools.{each_app, each_imp}
+use Rattle.calculus.proofs.Truth.{Sat, Distinct}
 use Rattle.calculus.proofs.Asserting.{WellFormed, below}
-use Rattle.calculus.proofs.Measure.{measure, weight, undecided, sum_below, sum_le, sum_const}
+use Rattle.calculus.proofs.Measure.{measure, weight, sum_below}
 use Rattle.calculus.proofs.RuleLaws.{Meant}
-use Rattle.calculus.proofs.Stepping.{step_fit, step_sat, solved_full}
+use Rattle.calculus.proofs.Stepping.{step_fit, step_sat}
 
 -- ---- forms in a log
 

@@ -1,20 +1,18 @@
 -- Masks stay below 2 ^ m, m the count of sets: they fit their bytes.
-use mathlib.Core.Path.{◌≡◌, sym, ◌∙◌, ap, subst}
-use mathlib.Core.Logic.{◌⊎◌, inl, inr, ◌≢◌}
-use mathlib.Core.Option.{Option, none, some}
-use mathlib.Core.List.{List, [], ◌∷◌}
-use Prim.Native.Nat.{ℕ, ◌+◌, ◌^◌, ◌<◌, ◌≤◌}
+use mathlib.Core.Path.{◌≡◌, sym, subst}
+use mathlib.Core.Option.{Option, some}
+use mathlib.Core.List.{List}
+use Prim.Native.Nat.{ℕ, ◌^◌, ◌<◌}
 use native.Mathlib.Omega.{arith}
 use native.Mathlib.Decide.{ℕ_discrete, dec_lt}
 use mathlib.Core.Bool.{◌&&◌, ◌||◌}
-use lib.Dec.{ltb}
 use lib.ListN.{length, get_or, set, replicate}
 use lib.Seq.{get_or-set_same, get_or-set_other, set_out}
 use lib.Bits.{bit_or, or_lt}
 use lib.Pow.{pow-lt, pow_pos}
 use Rattle.calculus.specs.Terms.{Term, SetVar}
 use Rattle.calculus.proofs.AtNumber.{add_in, add_out, merge_at, torn_at, owns_at}
-use Rattle.calculus.specs.Branch.{Branch, start, root_at, Fact, In, Out, Same, known, add_inside, add_outside, merge, torn, owns, conflict_if, merge_roots, assert}
+use Rattle.calculus.specs.Branch.{Branch, start, root_at, Fact, In, Out, Same, known, add_inside, add_outside, merge, assert}
 use Rattle.calculus.proofs.Asserting.{Merges, already, upper, lower, merges, conflict_if_some, Ranged}
 use Rattle.calculus.proofs.Sequences.{zeros}
 

@@ -1,20 +1,19 @@
 -- Bits of masks, and a mask in a list of masks.
-use mathlib.Core.Path.{◌≡◌, refl, sym, ◌∙◌, ap, ap₂, subst, fun_ext}
-use mathlib.Core.Logic.{◌⊎◌, inl, inr, ◌≢◌}
-use mathlib.Core.Bool.{true, false, ◌&&◌, ◌||◌, not, cond, true≢false, false≢true, or-false}
-use mathlib.Core.List.{List, [], ◌∷◌, ◌++◌, map}
-use Prim.Native.Nat.{ℕ, zero, suc, ◌+◌, ◌*◌, ◌/◌, ◌%◌, ◌^◌, ◌<◌, ◌≤◌, min, max}
+use mathlib.Core.Path.{◌≡◌, refl, sym, ◌∙◌, ap}
+use mathlib.Core.Logic.{◌⊎◌, inl, inr}
+use mathlib.Core.Bool.{true, false, ◌&&◌, ◌||◌, or-false}
+use mathlib.Core.List.{List}
+use Prim.Native.Nat.{ℕ, zero, suc, ◌/◌, ◌%◌, ◌^◌, ◌<◌, min, max}
 use native.Mathlib.Omega.{arith}
 use native.Mathlib.Decide.{ℕ_discrete}
-use native.Mathlib.Nat.{pow-suc, mod-lt, mul-div_cancel, mul-mod_left}
+use native.Mathlib.Nat.{pow-suc, mul-mod_left}
 use lib.ListN.{length, get_or, set}
 use lib.Seq.{get_or-set_same, get_or-set_other}
 use lib.Dec.{eqb, eqb-suc-suc, eqb-zero-suc, eqb-suc-zero}
 use lib.Bits.{bit_or, bit_and, or_step, and_step}
 use lib.Arith.{bin_ind}
-use borrow.Author.Tests.{eqb-true, eqb-false, eq-eqb, ne_eqb}
+use borrow.Author.Tests.{eq-eqb, ne_eqb}
 use Rattle.calculus.specs.Lists.{bit}
-use Rattle.calculus.proofs.Bools.{clash}
 
 pub odd_even : (a : ℕ) → (a % 2 ≡ 0) ⊎ (a % 2 ≡ 1)
 odd_even a = go (ℕ_discrete (a % 2) 0)

@@ -1,25 +1,22 @@
 -- Classes and undecided facts: their number falls with every fact that was not known.
-use mathlib.Core.Path.{◌≡◌, refl, sym, ◌∙◌, ap, ap₂, subst}
-use mathlib.Core.Logic.{◌⊎◌, inl, inr, ◌↔◌, ◌≢◌}
-use mathlib.Core.Bool.{Bool, true, false, ◌&&◌, ◌||◌, not, cond, true≢false, false≢true}
-use mathlib.Core.Option.{Option, none, some}
-use mathlib.Core.List.{List, [], ◌∷◌, ◌++◌, map}
-use Prim.Native.Nat.{ℕ, zero, suc, ◌+◌, ◌*◌, ◌^◌, ◌<◌, ◌≤◌, min, max, zero-le, suc-le-suc}
+use mathlib.Core.Path.{◌≡◌, refl, sym, ◌∙◌, ap, subst}
+use mathlib.Core.Logic.{◌⊎◌, inl, inr}
+use mathlib.Core.Bool.{Bool, true, false, ◌&&◌, ◌||◌, cond}
+use mathlib.Core.Option.{Option, some}
+use mathlib.Core.List.{List}
+use Prim.Native.Nat.{ℕ, zero, suc, ◌+◌, ◌*◌, ◌<◌, ◌≤◌, zero-le, suc-le-suc}
 use native.Mathlib.Omega.{arith}
-use native.Mathlib.Decide.{ℕ_discrete, dec_le}
+use native.Mathlib.Decide.{ℕ_discrete}
 use native.Mathlib.Nat.{le_refl, suc-mul}
-use lib.ListN.{length, get_or}
-use lib.Dec.{eqb, ltb}
-use borrow.Author.Tests.{eqb-true, eqb-false, eq-eqb, ne_eqb, ltb-true, ltb-false}
+use lib.Dec.{eqb}
+use borrow.Author.Tests.{eqb-true, eqb-false, eq-eqb, ne_eqb}
 use Rattle.calculus.specs.Terms.{Term, SetVar, term, set_var}
 use Rattle.calculus.proofs.AtNumber.{inside_at, outside_at, add_in, add_out, merge_at, torn_at, owns_at, merge_roots_at, set_eqb}
-use Rattle.calculus.specs.Lists.{all}
 pub use Rattle.calculus.specs.Invariants.{sum_below, undecided, weight, measure}
-use Rattle.calculus.specs.Branch.{Branch, root_at, inside, outside, Fact, In, Out, Same, known, add_inside, add_outside, merge, torn, owns, conflict_if, merge_roots, assert, assert_all}
-use Rattle.calculus.proofs.Bools.{and_l, and_r, and_i, or_cases, or_l, or_r, or_none_l, or_none_r, clash, test, all_cong}
+use Rattle.calculus.specs.Branch.{Branch, root_at, Fact, In, Out, Same, known, assert}
+use Rattle.calculus.proofs.Bools.{and_l, and_r, or_cases, or_l, or_r, test}
 use Rattle.calculus.proofs.Walk.{moved, moved_hi, moved_other}
-use Rattle.calculus.proofs.Asserting.{WellFormed, Ranged, Merges, already, upper, lower, merges, inside_add_inside, outside_add_inside, root_add_inside, inside_add_outside, outside_add_outside, root_add_outside, inside_merge, outside_merge, below, still, root_merge, conflict_if_some, root_below, root_in_insides, root_in_outsides}
-use Rattle.calculus.proofs.Keeping.{assert_fit}
+use Rattle.calculus.proofs.Asserting.{WellFormed, Ranged, Merges, already, upper, lower, merges, inside_add_inside, outside_add_inside, root_add_inside, inside_add_outside, outside_add_outside, root_add_outside, inside_merge, outside_merge, still, root_merge, conflict_if_some, root_below, root_in_insides, root_in_outsides}
 
 pub sum_le : (n : ℕ) (f g : ℕ → ℕ) → ((t : ℕ) → t < n → f t ≤ g t) → sum_below n f ≤ sum_below n g
 sum_le zero f g h = zero-le

@@ -1,18 +1,15 @@
 -- Tests of equality, of membership and of the relations between sets.
-use mathlib.Core.Path.{◌≡◌, refl, sym, ◌∙◌, ap, ap₂, subst}
-use mathlib.Core.Logic.{◌⊎◌, inl, inr, ◌↔◌, ◌≢◌}
-use mathlib.Core.Bool.{Bool, true, false, ◌&&◌, ◌||◌, not, cond, true≢false, false≢true}
-use mathlib.Core.List.{List, [], ◌∷◌, ◌++◌, map}
-use Prim.Native.Nat.{ℕ, zero, suc, ◌+◌, ◌<◌, ◌≤◌}
-use lib.Dec.{eqb}
+use mathlib.Core.Path.{◌≡◌, refl, ap, subst}
+use mathlib.Core.Logic.{◌⊎◌, inl, inr}
+use mathlib.Core.Bool.{Bool, true, false, false≢true}
+use mathlib.Core.List.{List, [], ◌∷◌}
 use lib.IntN.{ℤ, pos, negsuc}
-use borrow.Author.Tests.{eqb-true, eqb-false, eq-eqb, ne_eqb}
-use Rattle.calculus.specs.Lists.{any}
-use Rattle.calculus.specs.Relations.{Relation, equal, union, disjoint, subset, intersection, holds_at, Negation, unequal, denies}
+use borrow.Author.Tests.{eqb-true, eq-eqb}
+use Rattle.calculus.specs.Relations.{Relation, equal, union, disjoint, subset, intersection, holds_at}
 use Rattle.calculus.specs.Meaning.{◌∈◌, AtPoint, Relates}
 pub use Rattle.calculus.specs.Reading.{eq_z}
 pub use Rattle.calculus.specs.Check.{has}
-use Rattle.calculus.proofs.Bools.{clash, or_cases, or_l, or_r, test, not_t, not_f}
+use Rattle.calculus.proofs.Bools.{clash, or_cases, or_l, or_r}
 
 pub eq_z_eq : (x y : ℤ) → eq_z x y ≡ true → x ≡ y
 eq_z_eq (pos m) (pos n) e = ap pos (eqb-true m n e)

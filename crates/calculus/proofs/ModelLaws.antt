@@ -1,25 +1,24 @@
 -- In a branch where no move applies, the model satisfies the branch and every constraint.
-use mathlib.Core.Path.{◌≡◌, refl, sym, ◌∙◌, ap, ap₂, subst, fun_ext}
-use mathlib.Core.Logic.{◌⊎◌, inl, inr, ◌↔◌, ◌≢◌}
-use mathlib.Core.Bool.{Bool, true, false, ◌&&◌, ◌||◌, not, cond, true≢false, false≢true}
-use mathlib.Core.List.{List, [], ◌∷◌, ◌++◌, map}
-use Prim.Native.Nat.{ℕ, zero, suc, ◌+◌, ◌<◌, ◌≤◌}
+use mathlib.Core.Path.{◌≡◌, refl, sym, ◌∙◌, ap, subst}
+use mathlib.Core.Logic.{◌⊎◌, inl, inr}
+use mathlib.Core.Bool.{Bool, true, false, ◌&&◌, ◌||◌, not, true≢false, false≢true}
+use mathlib.Core.List.{List, [], ◌∷◌, map}
+use Prim.Native.Nat.{ℕ, ◌<◌}
 use native.Mathlib.Omega.{arith}
 use lib.Dec.{eqb}
 use lib.IntN.{ℤ}
-use borrow.Author.Tests.{eqb-true, eqb-false, eq-eqb}
+use borrow.Author.Tests.{eqb-true, eq-eqb}
 use Rattle.calculus.specs.Terms.{Term, SetVar, term}
-use Rattle.calculus.specs.Lists.{imp, all, any, keep, up_from, Each, gather}
-use Rattle.calculus.specs.Relations.{Rule, applies, propagation, choice, Relation, holds_at, Operand, Literal, propagation_rows, split_rows, negation_row, Negation, unequal, denies, lit_known, rows, operand_of}
-use Rattle.calculus.specs.Relations as R
-use Rattle.calculus.specs.Meaning.{Constraint, member, nonmember, same, different, relation, negation, exactly, interval, ◌∈◌, Valuation, Relates}
-use Rattle.calculus.specs.Branch.{Branch, root_at, root, inside, outside, Fact, In, Out, Same, known}
-use Rattle.calculus.specs.Search.{Move, fact_of, at, at_roots, distinct, entering, choose, choosing, propagations, splits, roots_of}
+use Rattle.calculus.specs.Lists.{all, any, keep, Each}
+use Rattle.calculus.specs.Relations.{Rule, applies, propagation, Relation, holds_at, Operand, Literal, propagation_rows, split_rows, negation_row, lit_known, rows, operand_of}
+use Rattle.calculus.specs.Meaning.{Constraint, member, nonmember, same, different, relation, negation, exactly, interval, ◌∈◌, Valuation}
+use Rattle.calculus.specs.Branch.{Branch, root_at, root, inside, Fact, In, Out, Same, known}
+use Rattle.calculus.specs.Search.{Move, fact_of, at, at_roots, entering, choose, choosing, propagations, splits, roots_of}
 use Rattle.calculus.specs.Invariants.{ConstraintIn}
 use Rattle.calculus.proofs.BranchForms.{AgreesBranch}
-use Rattle.calculus.proofs.Bools.{and_l, and_r, and_i, or_cases, or_none_l, or_none_r, imp_at, imp_i, clash, test, same_test, not_t, not_f, each_all, all_each, all_map, any_map, each_app, each_left, each_right, each_is_all, each_imp, each_map, map_each, gather_of_each}
+use Rattle.calculus.proofs.Bools.{and_l, and_i, or_cases, clash, test, same_test, not_f, all_each, each_app, each_imp, map_each, gather_of_each}
 use Rattle.calculus.proofs.Tables.{rows_full, negation_full, relation_none}
-use Rattle.calculus.proofs.Truth.{eq_z, eq_eq_z, has, has_in, in_has, test_relates, truth, Sat}
+use Rattle.calculus.proofs.Truth.{has, has_in, in_has, test_relates}
 use Rattle.calculus.proofs.Asserting.{WellFormed, below, still}
 use Rattle.calculus.proofs.RuleLaws.{applies_map, known_fact, Lists, Meant}
 use Rattle.calculus.proofs.Stepping.{IsRoot, roots_each, roots_at}

@@ -1,22 +1,21 @@
 -- The model's values, read off a record of the right shape.
 use mathlib.Core.Path.{◌≡◌, refl, sym, ◌∙◌, ap, subst}
-use mathlib.Core.Logic.{◌↔◌}
 use mathlib.Core.Bool.{Bool, true, false}
 use mathlib.Core.Option.{Option, none, some}
-use mathlib.Core.List.{List, map}
+use mathlib.Core.List.{List}
 use Prim.Native.Nat.{ℕ, ◌+◌, ◌<◌, ◌≤◌}
 use native.Mathlib.Omega.{arith}
 use lib.ListN.{get_or}
 use lib.Dec.{eqb}
 use lib.IntN.{ℤ, pos}
 use borrow.Author.Tests.{eqb-true, eq-eqb}
-use Rattle.calculus.specs.Lists.{bit, keep, first, Each}
+use Rattle.calculus.specs.Lists.{bit, keep, first}
 use Rattle.calculus.specs.Terms.{Term, SetVar, term, terms_from}
 use Rattle.calculus.specs.Meaning.{◌∈◌}
 use Rattle.calculus.specs.Problem.{Problem, constant_count, term_count, constant_terms, Valid}
 use Rattle.calculus.specs.Forms.{root_in, inside_in, root_inside, record_root, value_by, class_value, model_number, model}
 use Rattle.calculus.specs.Demands.{Shape, Valued}
-use Rattle.calculus.proofs.Bools.{and_l, and_r, and_i, clash, first_none, first_some}
+use Rattle.calculus.proofs.Bools.{and_r, and_i, clash, first_none, first_some}
 use Rattle.calculus.proofs.Sequences.{terms_each, terms_at, keep_each, keep_at, from_image, image_of}
 
 module _ (prob : Problem) (acc : Valid prob) (r : List ℕ) (s : Shape prob r) where

@@ -1,33 +1,30 @@
 -- The listed records: their shape, and their models.
 use mathlib.Core.Path.{◌≡◌, refl, sym, ◌∙◌, ap, ap₂, subst, fun_ext}
-use mathlib.Core.Logic.{◌↔◌, ◌≢◌, ◌⊎◌, inl, inr}
-use mathlib.Core.Bool.{Bool, true, false, ◌&&◌, cond, false≢true}
-use mathlib.Core.Option.{Option, none, some}
-use mathlib.Core.List.{List, [], ◌∷◌, ◌++◌, map}
-use Prim.Native.Nat.{ℕ, zero, suc, ◌+◌, ◌*◌, ◌^◌, ◌<◌, zero-le}
+use mathlib.Core.Logic.{inr}
+use mathlib.Core.Bool.{Bool, true, false, ◌&&◌, false≢true}
+use mathlib.Core.List.{List, [], ◌∷◌, map}
+use Prim.Native.Nat.{ℕ, zero, suc, ◌+◌, ◌*◌, ◌<◌}
 use native.Mathlib.Omega.{arith}
 use native.Mathlib.Decide.{dec_lt}
-use native.Mathlib.Nat.{le_of_eq}
 use lib.ListN.{length, get_or, take, drop, get_or-eq_default}
 use lib.Dec.{eqb}
 use lib.IntN.{ℤ, pos}
 use borrow.Author.Tests.{eqb-true}
 use Rattle.calculus.specs.Terms.{Term, SetVar, term, set_var, terms_from}
-use Rattle.calculus.specs.Lists.{bit, keep, Each, Some, here, there, gather}
-use Rattle.calculus.specs.Meaning.{Constraint, Valuation, Holds}
-use Rattle.calculus.specs.Branch.{Branch, start, root_at, root, inside, outside, Fact, assert}
-use Rattle.calculus.specs.Search.{Next, solved, step, next, roots_of}
+use Rattle.calculus.specs.Lists.{bit, keep, Each, Some}
+use Rattle.calculus.specs.Meaning.{Holds}
+use Rattle.calculus.specs.Branch.{Branch, start, root_at, root, inside, outside}
+use Rattle.calculus.specs.Search.{step, next, roots_of}
 use Rattle.calculus.specs.Problem.{Problem, constant_count, term_count, set_count, constant_terms, Assignment, values, Satisfies, Valid}
-use Rattle.calculus.proofs.BranchForms.{forms_of, problem_forms, AgreesBranch, branch_number, branch_model}
+use Rattle.calculus.proofs.BranchForms.{forms_of, problem_forms, branch_number, branch_model}
 use Rattle.calculus.specs.Run.{Event, log, Tally, run}
 use Rattle.calculus.specs.Run as R
 use Rattle.calculus.specs.Forms.{record_of, record_length, root_in, root_inside, listed_forms, Agrees, SatisfiesForm, record_root, class_value, model_number, model}
-use Rattle.calculus.specs.Reading.{parsed, read}
-use Rattle.calculus.specs.Calls.{Verdict, FORMS, FALSE, ended, verdict_of, over, call}
+use Rattle.calculus.specs.Calls.{FORMS, FALSE, verdict_of, call}
 use Rattle.calculus.specs.Demands.{Shape, Valued, Models, Verdicts}
-use Rattle.calculus.proofs.Bools.{and_i, clash, each_app, each_imp, each_zip, each_map, each_take}
+use Rattle.calculus.proofs.Bools.{and_i, each_zip, each_map, each_take}
 use Rattle.calculus.proofs.Walk.{walk_root}
-use Rattle.calculus.proofs.Asserting.{WellFormed, below, still, Ranged, root_below}
+use Rattle.calculus.proofs.Asserting.{WellFormed, below, still}
 use Rattle.calculus.proofs.MaskBounds.{Small, assert_small, start_small}
 use Rattle.calculus.proofs.Measure.{measure}
 use Rattle.calculus.proofs.Stepping.{step_fit, step_keeps}

@@ -9,12 +9,11 @@ use lib.Dec.{leb}
 use lib.IntN.{ℤ}
 use borrow.Author.Tests.{leb-true, le-leb, lt-leb}
 use Rattle.calculus.specs.Limits.{most_bytes, most_sets, most_constraints, most_terms}
-use Rattle.calculus.specs.Meaning.{Constraint}
-use Rattle.calculus.specs.Problem.{Problem, uses, Numbered, Valid}
+use Rattle.calculus.specs.Problem.{Problem, Numbered, Valid}
 use Rattle.calculus.specs.Reading.{parsed, refused, ◌>>=◌, ask, words, ascending, in_range, letters, read_constants, read}
 use Rattle.calculus.proofs.Bools.{and_l, and_r}
 use Rattle.calculus.proofs.Words.{ascending_rising, range_is, letters_are}
-use Rattle.calculus.proofs.Parsers.{one, counted, given, answered, then, no_answer, at_given}
+use Rattle.calculus.proofs.Parsers.{one, counted, answered, then, no_answer, at_given}
 use Rattle.calculus.proofs.ConstraintLaws.{last_le}
 use Rattle.calculus.proofs.Sections.{whole, First, first_reads}
 

@@ -1,19 +1,17 @@
 -- A form's record: it is the one that shows exactly what the branch knows, and it states exactly that.
 use mathlib.Core.Path.{◌≡◌, sym, ◌∙◌, ap, subst}
 use mathlib.Core.Logic.{◌↔◌}
-use mathlib.Core.Bool.{Bool, true, false}
+use mathlib.Core.Bool.{true}
 use mathlib.Core.List.{List}
 use Prim.Native.Nat.{ℕ, zero, suc, ◌+◌, ◌/◌, ◌%◌, ◌≤◌}
 use native.Mathlib.Omega.{arith}
 use native.Mathlib.Decide.{ℕ_discrete}
-use lib.Dec.{eqb}
 use borrow.Author.Tests.{eqb-true, eq-eqb}
 use Rattle.calculus.specs.Lists.{bit}
-use Rattle.calculus.specs.Terms.{Term, SetVar, term}
-use Rattle.calculus.specs.Meaning.{◌∈◌, Valuation}
+use Rattle.calculus.specs.Terms.{SetVar, term}
 use Rattle.calculus.specs.Branch.{Branch, root_at, inside, outside, Fact, In, Out, Same, known}
-use Rattle.calculus.specs.Forms.{record_of, inside_in, outside_in, Agrees}
-use Rattle.calculus.specs.Order.{Recorded, Ranged, TrueOf, Reached}
+use Rattle.calculus.specs.Forms.{record_of, inside_in, outside_in}
+use Rattle.calculus.specs.Order.{Recorded, Ranged, TrueOf}
 use Rattle.calculus.specs.Demands.{Records, States}
 use Rattle.calculus.proofs.Asserting.{below, still}
 use Rattle.calculus.proofs.AssertSpec.{reached_fit}

@@ -1,19 +1,18 @@
 -- A run that ends lists every form, and the problem's solutions are those of the listed records.
-use mathlib.Core.Path.{◌≡◌, refl, sym, ◌∙◌, ap, ap₂, subst}
+use mathlib.Core.Path.{◌≡◌, refl, sym, ◌∙◌, ap, subst}
 use mathlib.Core.Logic.{◌↔◌}
-use mathlib.Core.Bool.{true, false, cond, true≢false, false≢true}
+use mathlib.Core.Bool.{true, false, false≢true}
 use mathlib.Core.List.{List, [], ◌∷◌, map}
-use Prim.Native.Nat.{ℕ, suc, ◌*◌, ◌≤◌, zero-le, suc-le-suc}
-use lib.ListN.{length, take, drop}
+use Prim.Native.Nat.{ℕ, suc, ◌*◌}
+use lib.ListN.{length, take}
 use lib.Seq.{take_at, drop_at, take-length}
-use lib.IntN.{ℤ}
 use Rattle.calculus.specs.Lists.{bit, Some, here, there}
-use Rattle.calculus.specs.Meaning.{◌∈◌, Valuation, Holds}
+use Rattle.calculus.specs.Meaning.{Valuation}
 use Rattle.calculus.specs.Branch.{Branch, start, inside, outside}
 use Rattle.calculus.specs.Terms.{term}
 use Rattle.calculus.specs.Problem.{Problem, term_count, set_count, constant_terms, Assignment, values, Satisfies, Valid}
 use Rattle.calculus.specs.Forms.{record_of, record_length, listed_forms, Agrees, SatisfiesForm}
-use Rattle.calculus.specs.Run.{Event, log, End, DONE, Tally, tally, run}
+use Rattle.calculus.specs.Run.{Event, log, DONE, tally, run}
 use Rattle.calculus.proofs.BranchForms.{forms_of, problem_forms, AgreesBranch, SatisfiesBranch}
 use Rattle.calculus.proofs.Solutions.{solutions}
 use Rattle.calculus.proofs.Tallying.{tally_by}

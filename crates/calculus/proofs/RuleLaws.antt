@@ -1,26 +1,23 @@
 -- Every move that a constraint offers is sound for values of which the constraint is true.
-use mathlib.Core.Path.{◌≡◌, refl, sym, ◌∙◌, ap, ap₂, subst, fun_ext}
-use mathlib.Core.Logic.{◌⊎◌, inl, inr, ◌↔◌, ◌≢◌}
-use mathlib.Core.Bool.{Bool, true, false, ◌&&◌, ◌||◌, not, cond, true≢false, false≢true}
-use mathlib.Core.Option.{Option, none, some}
-use mathlib.Core.List.{List, [], ◌∷◌, ◌++◌, map}
-use Prim.Native.Nat.{ℕ, zero, suc, ◌+◌, ◌≤◌}
-use native.Mathlib.Omega.{arith}
+use mathlib.Core.Path.{◌≡◌, refl, sym, ◌∙◌, ap, ap₂, fun_ext}
+use mathlib.Core.Logic.{◌⊎◌, inl, inr, ◌↔◌}
+use mathlib.Core.Bool.{Bool, true, false, ◌&&◌, ◌||◌, not, false≢true}
+use mathlib.Core.List.{List, [], ◌∷◌, map}
+use Prim.Native.Nat.{ℕ}
 use lib.Dec.{eqb}
 use lib.IntN.{ℤ}
-use borrow.Author.Tests.{eqb-true, eqb-false, eq-eqb, ne_eqb}
-use Rattle.calculus.specs.Terms.{Term, SetVar, term}
+use Rattle.calculus.specs.Terms.{Term, SetVar}
 use Rattle.calculus.proofs.AtNumber.{term_eqb}
-use Rattle.calculus.specs.Lists.{imp, all, any, keep, up_from, Each, Some, here, there, gather, picked}
+use Rattle.calculus.specs.Lists.{imp, all, any, keep, Each}
 use Rattle.calculus.specs.Relations.{Rule, applies, propagation, choice, sound, adds, map_rule, Relation, holds_at, Operand, Literal, propagation_rows, split_rows, negation_row, Negation, unequal, denies, lit_known, rows, operand_of}
 use Rattle.calculus.specs.Relations as R
-use Rattle.calculus.specs.Meaning.{Constraint, member, nonmember, same, different, relation, negation, exactly, interval, ◌∈◌, Valuation, Holds, Relates}
-use Rattle.calculus.specs.Branch.{Branch, root_at, root, inside, outside, Fact, In, Out, Same, known}
-use Rattle.calculus.specs.Search.{Move, fact_of, at, at_roots, distinct, entering, choose, choosing, propagations, splits, roots_of}
-use Rattle.calculus.proofs.Bools.{and_l, and_r, and_i, or_cases, or_l, or_r, or_none_l, imp_at, imp_i, clash, test, not_t, not_f, each_all, all_each, all_map, any_map, each_app, each_left, each_right, each_is_all, each_imp, each_map, each_gather}
-use Rattle.calculus.proofs.Tables.{lit_true, rows_sound, negation_sound, rows_add}
+use Rattle.calculus.specs.Meaning.{Constraint, member, nonmember, same, different, relation, negation, exactly, interval, ◌∈◌, Valuation, Relates}
+use Rattle.calculus.specs.Branch.{Branch, root_at, root, Fact, In, Out, Same, known}
+use Rattle.calculus.specs.Search.{Move, fact_of, at, at_roots, distinct, entering, choose, choosing, propagations, splits}
+use Rattle.calculus.proofs.Bools.{and_l, or_cases, or_l, or_r, imp_i, test, each_all, all_map, any_map, each_left, each_right, each_is_all, each_imp, each_map, each_gather}
+use Rattle.calculus.proofs.Tables.{lit_true, rows_sound, negation_sound}
 use Rattle.calculus.proofs.Truth.{eq_z, eq_z_eq, eq_eq_z, has, has_in, in_has, relates_test, truth, Sat}
-use Rattle.calculus.proofs.Asserting.{WellFormed, still, Ranged, same_num}
+use Rattle.calculus.proofs.Asserting.{WellFormed, still, same_num}
 
 -- ---- a row at a term is the row
 

@@ -1,11 +1,9 @@
 -- A search through a list, part by part: what loops over constraints, rules and roots need.
-use mathlib.Core.Path.{◌≡◌, refl, sym, ◌∙◌, ap, subst}
+use mathlib.Core.Path.{◌≡◌, refl, sym, ◌∙◌, ap}
 use mathlib.Core.Bool.{Bool, true, false}
-use mathlib.Core.Option.{Option, none, some}
+use mathlib.Core.Option.{none, some}
 use mathlib.Core.List.{List, [], ◌∷◌, ◌++◌, append-nil}
-use Prim.Native.Nat.{ℕ, zero, suc, ◌+◌, ◌<◌}
-use lib.ListN.{length, get_or, drop}
-use Rattle.calculus.specs.Lists.{first, Each, gather}
+use Rattle.calculus.specs.Lists.{first, Each}
 
 module _ {X : Type 0} (p : X → Bool) where
   -- what fails is passed over, and what passes ends the search

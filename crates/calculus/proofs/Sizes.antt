@@ -1,17 +1,17 @@
 -- How many children a step has: distinct classes of n terms are at most n.
-use mathlib.Core.Path.{◌≡◌, refl, sym, ◌∙◌, subst}
-use mathlib.Core.Bool.{Bool, true, false, not, cond, false≢true, true≢false}
+use mathlib.Core.Path.{◌≡◌, refl, subst}
+use mathlib.Core.Bool.{Bool, true, false, not}
 use mathlib.Core.Option.{Option, none, some}
-use mathlib.Core.List.{List, [], ◌∷◌, ◌++◌, map}
-use Prim.Native.Nat.{ℕ, zero, suc, ◌+◌, ◌<◌, ◌≤◌, zero-le, suc-le-suc}
+use mathlib.Core.List.{List, [], ◌∷◌}
+use Prim.Native.Nat.{ℕ, zero, suc, ◌<◌, ◌≤◌, zero-le}
 use native.Mathlib.Omega.{arith}
-use lib.ListN.{length, length-map}
+use lib.ListN.{length}
 use lib.Dec.{eqb}
-use borrow.Author.Tests.{eqb-true, eqb-false, eq-eqb}
+use borrow.Author.Tests.{eqb-true, eqb-false}
 use Rattle.calculus.specs.Lists.{keep, Each, picked}
 use Rattle.calculus.specs.Terms.{Term}
 use Rattle.calculus.specs.Search.{distinct}
-use Rattle.calculus.proofs.Bools.{clash, each_imp, not_t}
+use Rattle.calculus.proofs.Bools.{each_imp, not_t}
 use Rattle.calculus.proofs.AddingFacts.{each_keep, each_distinct}
 use Rattle.calculus.proofs.Sequences.{keep_each, keep_all}
 

@@ -1,39 +1,38 @@
 -- The solutions of a valid problem are those of its forms, and every form has one: the model.
-use mathlib.Core.Path.{◌≡◌, refl, sym, ◌∙◌, ap, ap₂, subst, fun_ext}
-use mathlib.Core.Logic.{◌⊎◌, inl, inr, ◌↔◌, ◌≢◌}
-use mathlib.Core.Bool.{Bool, true, false, ◌&&◌, ◌||◌, not, cond, true≢false, false≢true}
+use mathlib.Core.Path.{◌≡◌, refl, sym, ◌∙◌, ap, subst, fun_ext}
+use mathlib.Core.Logic.{◌↔◌}
+use mathlib.Core.Bool.{Bool, false}
 use mathlib.Core.Option.{Option, none, some}
-use mathlib.Core.List.{List, [], ◌∷◌, ◌++◌, map}
-use Prim.Native.Nat.{ℕ, zero, suc, ◌+◌, ◌-◌, ◌*◌, ◌<◌, ◌≤◌}
+use mathlib.Core.List.{List, map}
+use Prim.Native.Nat.{ℕ, zero, suc, ◌+◌, ◌*◌, ◌<◌, ◌≤◌}
 use native.Mathlib.Omega.{arith}
 use native.Mathlib.Decide.{dec_lt, ℕ_discrete}
 use native.Mathlib.Nat.{le_of_eq}
 use lib.ListN.{length, get_or}
-use lib.Dec.{T, eqb, ltb, leb→le}
-use lib.IntN.{ℤ, pos, negsuc}
-use lib.Signed.{◌≤ℤ◌, mag, le_z}
+use lib.Dec.{T, eqb, leb→le}
+use lib.IntN.{ℤ, pos}
+use lib.Signed.{mag, le_z}
 use borrow.Author.Tests.{lt-ltb, le-ltb, eqb-true, eq-eqb}
-use Rattle.calculus.specs.Lists.{Each, Some, here, there, keep, first, up_from, any}
+use Rattle.calculus.specs.Lists.{Each, Some, here, there, keep, first, any}
 use Rattle.calculus.specs.Meaning.{Constraint, Valuation, Holds}
-use Rattle.calculus.specs.Terms.{Term, SetVar, term, terms_from}
-use Rattle.calculus.specs.Branch.{Branch, start, root_at, root, inside, Fact, In, Out, Same, known}
+use Rattle.calculus.specs.Terms.{Term, term, terms_from}
+use Rattle.calculus.specs.Branch.{Branch, start, root_at, root, inside, known}
 use Rattle.calculus.specs.Relations.{applies}
-use Rattle.calculus.specs.Search.{Move, propagations, splits, roots_of, next, solved}
+use Rattle.calculus.specs.Search.{Move, propagations, splits, roots_of}
 use Rattle.calculus.specs.Problem.{Problem, constant_count, nameable, term_count, set_count, constant_terms, Assignment, value_of, values, Satisfies, Valid}
 use Rattle.calculus.specs.Forms.{value_by, class_value}
 use Rattle.calculus.specs.Invariants.{ConstraintIn}
 use Rattle.calculus.proofs.BranchForms.{AgreesBranch, SatisfiesBranch, branch_number, branch_model, problem_forms}
-use Rattle.calculus.proofs.Bools.{each_imp, each_zip, first_some, first_none, clash, or_l, or_r}
+use Rattle.calculus.proofs.Bools.{each_zip, first_some, first_none, clash, or_l, or_r}
 use Rattle.calculus.proofs.Truth.{Sat, Is}
 use Rattle.calculus.proofs.Asserting.{WellFormed}
-use Rattle.calculus.proofs.Measure.{measure}
 use Rattle.calculus.proofs.RuleLaws.{Meant}
 use Rattle.calculus.proofs.Stepping.{IsRoot, solved_full}
 use Rattle.calculus.proofs.Sequences.{terms_each, terms_at}
 use Rattle.calculus.proofs.Integers.{rising_inj}
 use Rattle.calculus.proofs.ModelLaws.{model_values, model_agrees, model_good}
 use Rattle.calculus.proofs.LogLaws.{log_sat, log_full, Full}
-use Rattle.calculus.proofs.Start.{start_fit, start_sat, start_measure, sat_agrees, agrees_sat}
+use Rattle.calculus.proofs.Start.{start_fit, start_sat, start_measure, sat_agrees}
 use Rattle.calculus.proofs.ConstraintLaws.{InScope, constraints_within, constants_distinct, good_holds, own, holds_any, witnessed}
 
 some_zip : (P Q R : Branch → Type 0) → ((b : Branch) → P b → Q b → R b) → (bs : List Branch) → Each P bs → Some Q bs → Some R bs

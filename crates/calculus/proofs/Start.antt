@@ -1,28 +1,27 @@
 -- The start of a search; and what a branch knows against the merges and facts that it states.
-use mathlib.Core.Path.{◌≡◌, refl, sym, ◌∙◌, ap, ap₂, subst}
-use mathlib.Core.Logic.{◌⊎◌, inl, inr, ◌↔◌, ◌≢◌}
-use mathlib.Core.Bool.{Bool, true, false, ◌&&◌, ◌||◌, not, cond, true≢false, false≢true}
-use mathlib.Core.List.{List, [], ◌∷◌, ◌++◌, map}
-use Prim.Native.Nat.{ℕ, zero, suc, ◌*◌, ◌<◌, ◌≤◌, zero-le, suc-le-suc}
+use mathlib.Core.Path.{◌≡◌, refl, sym, ◌∙◌, ap}
+use mathlib.Core.Logic.{◌⊎◌, inl, inr}
+use mathlib.Core.Bool.{true, false, not}
+use mathlib.Core.List.{List}
+use Prim.Native.Nat.{ℕ, zero, suc, ◌*◌, ◌<◌, ◌≤◌}
 use native.Mathlib.Omega.{arith}
 use native.Mathlib.Decide.{dec_lt}
 use native.Mathlib.Nat.{le_refl, mul-one}
 use lib.ListN.{length-replicate, get_or-eq_default}
-use lib.Dec.{eqb}
 use lib.IntN.{ℤ}
 use borrow.Author.Tests.{eqb-true, eq-eqb}
 use Rattle.calculus.specs.Terms.{Term, SetVar, term, set_var}
 use Rattle.calculus.proofs.AtNumber.{inside_at, outside_at}
 use Rattle.calculus.specs.Lists.{bit, up_from}
 use Rattle.calculus.specs.Meaning.{◌∈◌, Valuation}
-use Rattle.calculus.specs.Branch.{Branch, start, walk, root_at, inside, outside, Fact, In, Out, Same, known}
+use Rattle.calculus.specs.Branch.{Branch, start, walk, root_at, inside, outside, In, Out, Same}
 use Rattle.calculus.proofs.BranchForms.{AgreesBranch}
 use Rattle.calculus.proofs.Bools.{clash, test, not_t}
 use Rattle.calculus.proofs.Masks.{bit_zero}
 use Rattle.calculus.proofs.Walk.{walk_root}
-use Rattle.calculus.proofs.Truth.{truth, Sat, eq_z_eq, eq_eq_z, has, has_in, in_has}
+use Rattle.calculus.proofs.Truth.{truth, Sat, eq_eq_z, has, has_in, in_has}
 use Rattle.calculus.proofs.Asserting.{WellFormed, still, same_num}
-use Rattle.calculus.proofs.Measure.{measure, weight, undecided, sum_below, sum_const}
+use Rattle.calculus.proofs.Measure.{measure, weight, undecided, sum_const}
 use Rattle.calculus.proofs.Sequences.{up_length, up_get_d, zeros}
 
 start_walk : (f n t : ℕ) → walk f (up_from 0 n) t ≡ t

@@ -1,29 +1,27 @@
 -- The step that is done next: some child is satisfied, and every child has less left to decide. Where nothing is done next, no move applies.
-use mathlib.Core.Path.{◌≡◌, refl, sym, ◌∙◌, ap, ap₂, subst, fun_ext}
-use mathlib.Core.Logic.{◌⊎◌, inl, inr, ◌↔◌, ◌≢◌}
-use mathlib.Core.Bool.{Bool, true, false, ◌&&◌, ◌||◌, not, cond, true≢false, false≢true}
+use mathlib.Core.Path.{◌≡◌, refl, subst}
+use mathlib.Core.Bool.{Bool, true, false, not, false≢true}
 use mathlib.Core.Option.{Option, none, some}
-use mathlib.Core.List.{List, [], ◌∷◌, ◌++◌, map}
-use Prim.Native.Nat.{ℕ, zero, suc, ◌+◌, ◌<◌, ◌≤◌}
+use mathlib.Core.List.{List, [], ◌∷◌, map}
+use Prim.Native.Nat.{ℕ, suc, ◌<◌}
 use native.Mathlib.Omega.{arith}
-use native.Mathlib.Decide.{ℕ_discrete}
 use lib.ListN.{length}
 use lib.Dec.{eqb}
 use borrow.Author.Tests.{eqb-true, eq-eqb}
-use Rattle.calculus.specs.Terms.{Term, SetVar, term, terms_from}
-use Rattle.calculus.specs.Lists.{imp, all, any, keep, first, up_from, Each, Some, here, there, gather, picked}
-use Rattle.calculus.specs.Relations.{Rule, applies, sound, adds, Negation, unequal, denies}
+use Rattle.calculus.specs.Terms.{Term, terms_from}
+use Rattle.calculus.specs.Lists.{all, any, first, Each, Some, picked}
+use Rattle.calculus.specs.Relations.{applies, sound}
 use Rattle.calculus.specs.Meaning.{Constraint, Valuation}
-use Rattle.calculus.specs.Branch.{Branch, root_at, root, Fact, known, assert, assert_all}
+use Rattle.calculus.specs.Branch.{Branch, root_at, Fact, known, assert, assert_all}
 use Rattle.calculus.specs.Search.{Move, propagations, splits, roots_of, Candidate, candidates, places, Next, solved, step, children, taken, next}
 use Rattle.calculus.specs.Invariants.{ConstraintIn}
-use Rattle.calculus.proofs.Bools.{and_l, and_r, and_i, imp_at, clash, not_t, each_all, all_each, each_app, each_left, each_right, each_imp, each_zip, each_map, map_each, first_none, first_some}
+use Rattle.calculus.proofs.Bools.{and_l, imp_at, not_t, each_all, all_each, each_app, each_left, each_right, each_imp, each_zip, each_map, map_each, first_none, first_some}
 use Rattle.calculus.proofs.Truth.{truth, Sat, Distinct}
 use Rattle.calculus.proofs.Asserting.{WellFormed, Ranged}
 use Rattle.calculus.proofs.Measure.{measure}
 use Rattle.calculus.proofs.Children.{children_sat, children_fit}
 use Rattle.calculus.proofs.RuleLaws.{Meant, propagations_sound, splits_sound}
-use Rattle.calculus.proofs.AddingFacts.{each_keep, Tame, propagations_tame, splits_tame}
+use Rattle.calculus.proofs.AddingFacts.{Tame, propagations_tame, splits_tame}
 use Rattle.calculus.proofs.Sequences.{terms_each, terms_at, keep_each, keep_at}
 
 module _ (n : ℕ) (b : Branch) where

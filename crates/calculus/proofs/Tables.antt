@@ -1,11 +1,10 @@
 -- The rules' truth tables, computed, and what they say.
-use mathlib.Core.Path.{◌≡◌, refl, sym, ◌∙◌, ap, subst, fun_ext}
-use mathlib.Core.Bool.{Bool, true, false, ◌&&◌, ◌||◌, not, cond}
-use mathlib.Core.List.{List, [], ◌∷◌, map}
-use Prim.Native.Nat.{ℕ, zero, suc, ◌+◌}
-use Rattle.calculus.specs.Lists.{imp, all, any, Each}
-use Rattle.calculus.specs.Relations.{Rule, applies, sound, adds, map_rule, Relation, equal, union, disjoint, subset, intersection, holds_at, Operand, A, B, C, Literal, In, Out, negation_row, Negation, unequal, denies, operand_of, lit_known, rows}
-use Rattle.calculus.proofs.Bools.{and_l, and_r, and_i, imp_at, every, every3, every3_at, not_t, not_f}
+use mathlib.Core.Path.{◌≡◌, refl, ap, subst, fun_ext}
+use mathlib.Core.Bool.{Bool, true, false, ◌&&◌, not}
+use mathlib.Core.List.{List, [], ◌∷◌}
+use Rattle.calculus.specs.Lists.{imp, all}
+use Rattle.calculus.specs.Relations.{Rule, applies, sound, adds, Relation, equal, union, disjoint, subset, intersection, holds_at, Operand, A, B, C, Literal, In, Out, negation_row, Negation, unequal, denies, operand_of, lit_known, rows}
+use Rattle.calculus.proofs.Bools.{and_i, imp_at, every3, every3_at, not_t}
 
 module _ {X : Type 0} where
   by_all : (e : Operand → X) → operand_of (e A) (e B) (e C) ≡ e

@@ -1,7 +1,7 @@
 -- The run goes as document 01 says, and no path is longer than terms × (sets + 1).
-use mathlib.Core.Path.{◌≡◌, refl, sym, ◌∙◌, ap, ap₂, subst}
-use mathlib.Core.Logic.{◌≢◌, ◌⊎◌, inl, inr}
-use mathlib.Core.Bool.{Bool, true, false, cond, false≢true}
+use mathlib.Core.Path.{◌≡◌, refl, sym, ◌∙◌, ap, subst}
+use mathlib.Core.Logic.{◌≢◌}
+use mathlib.Core.Bool.{Bool, true, false, false≢true}
 use mathlib.Core.List.{List, [], ◌∷◌, ◌++◌, map, append_assoc, append-nil}
 use Prim.Native.Nat.{ℕ, zero, suc, ◌+◌, ◌-◌, ◌*◌, ◌<◌, ◌≤◌}
 use native.Mathlib.Omega.{arith}
@@ -12,12 +12,11 @@ use borrow.Author.Tests.{leb-true, leb-false}
 use Rattle.calculus.specs.Terms.{Term}
 use Rattle.calculus.specs.Lists.{Each, Some, here, there, gather}
 use Rattle.calculus.specs.Branch.{Branch, start}
-use Rattle.calculus.specs.Search.{Next, solved, step, next}
+use Rattle.calculus.specs.Search.{Next, solved, step}
 use Rattle.calculus.specs.Problem.{set_count, Problem, term_count, constant_terms, Valid}
 use Rattle.calculus.specs.Run.{Event, formed, stepped, log, Tally, stop, list_form, take_step, tally, next_of, run}
 use Rattle.calculus.specs.Forms.{record_of}
 use Rattle.calculus.specs.Run as R
-use Rattle.calculus.specs.Reading.{parsed, read}
 use Rattle.calculus.specs.Calls.{Verdict, FORMS, FALSE, SPENT, NOROOM, verdict_of}
 use Rattle.calculus.specs.Order.{PathTo, begin, onward, Progress, unbegun, with_form, with_step, Works, all_worked, none_listed, form_listed, no_room, spending, closing, stepping}
 use Rattle.calculus.specs.Demands.{ShortPaths}

@@ -1,5 +1,5 @@
 -- A branch: classes of terms, and what is known of each class.
-use Rattle.std.specs.Prelude.{Bool, true, false, ◌&&◌, ◌||◌, not, cond, List, [], ◌∷◌, ◌++◌, map, ℕ, zero, suc, ◌+◌, ◌-◌, ◌^◌, min, max, length, get_or, set, replicate, leb, ltb, eqb}
+use Rattle.std.specs.Prelude.{Bool, true, false, ◌&&◌, ◌||◌, not, cond, List, [], ◌∷◌, ℕ, zero, suc, ◌^◌, min, max, get_or, set, replicate, eqb}
 use Rattle.std.proofs.Math.Option.{Option, none, some}
 use Rattle.std.specs.Int.Bits.{bit_and, bit_or}
 use Rattle.calculus.specs.Lists.{up_from, any, bit}

@@ -1,6 +1,6 @@
 -- The two calls: what is handed in, what is answered, and the lent buffers as they are left.
 use Rattle.std.proofs.Math.Option.{Option, none, some}
-use Rattle.std.specs.Prelude.{List, [], ◌∷◌, ◌++◌, ℕ, zero, suc, ◌+◌, ◌*◌, length, drop, leb, pos}
+use Rattle.std.specs.Prelude.{List, ◌++◌, ℕ, zero, suc, ◌+◌, ◌*◌, length, drop, leb, pos}
 use Rattle.calculus.specs.Limits.{most_steps}
 use Rattle.calculus.specs.Problem.{Problem, values}
 use Rattle.calculus.specs.Reading.{Parsed, parsed, refused, ◌>>=◌, ask, read}

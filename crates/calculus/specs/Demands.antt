@@ -1,5 +1,5 @@
 -- What the customer holds the two calls to. The statements about calls are over bytes, budgets and lent buffers, whatever they are; the others are about the definitions that these use.
-use Rattle.std.specs.Prelude.{◌≡◌, ◌↔◌, ◌⊎◌, true, List, [], ◌∷◌, ◌++◌, ℕ, zero, suc, ◌+◌, ◌*◌, ◌/◌, ◌%◌, ◌^◌, ◌≤◌, ◌<◌, length, get_or, take, drop, ℤ, pos}
+use Rattle.std.specs.Prelude.{◌≡◌, ◌↔◌, ◌⊎◌, true, List, [], ◌∷◌, ◌++◌, ℕ, suc, ◌+◌, ◌*◌, ◌/◌, ◌%◌, ◌^◌, ◌≤◌, ◌<◌, length, get_or, take, drop, ℤ, pos}
 use Rattle.std.proofs.Math.Option.{Option, none, some}
 use Rattle.calculus.specs.Limits.{most_bytes, most_steps}
 use Rattle.calculus.specs.Lists.{Each, Some, picked, bit}
@@ -14,7 +14,7 @@ use Rattle.calculus.specs.Search.{distinct, solved, step}
 use Rattle.calculus.specs.Forms.{record_of, listed_forms, Agrees, SatisfiesForm, model_number, model, handed_model, record_length, root_in, inside_in, outside_in}
 use Rattle.calculus.specs.Run.{next_of}
 use Rattle.calculus.specs.Check.{read_assignment, assignment_of}
-use Rattle.calculus.specs.Calls.{Verdict, FORMS, FALSE, SPENT, NOROOM, Answer, refusal, ended, asked, call, answer_number, answer_word, Checked, declined, HOLDS, FAILS, check, checked_number, check_word}
+use Rattle.calculus.specs.Calls.{Verdict, FORMS, FALSE, SPENT, NOROOM, refusal, ended, asked, call, answer_number, answer_word, declined, HOLDS, FAILS, check, checked_number, check_word}
 use Rattle.calculus.specs.Order.{KnownIn, KnownOut, OneClass, Then, Conflicts, Ranged, Reached, TrueOf, Recorded, Once, Place, Before, AssertsAll, Leaves, Enabled, Solved, StepOf, PathTo, Progress, unbegun, Works}
 
 -- ---- demand 1

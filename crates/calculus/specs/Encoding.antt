@@ -1,8 +1,8 @@
 -- How a problem and an assignment are written as bytes: document 01's format, told from the other side.
-use Rattle.std.specs.Prelude.{◌≡◌, refl, List, [], ◌∷◌, ◌++◌, map, ℕ, zero, suc, ◌+◌, ◌*◌, ◌-◌, ◌/◌, ◌%◌, ◌≤◌, ◌<◌, length, ℤ, pos, negsuc, ◌≤ℤ◌}
+use Rattle.std.specs.Prelude.{◌≡◌, List, [], ◌∷◌, ◌++◌, map, ℕ, ◌-◌, ◌/◌, ◌%◌, ◌≤◌, ◌<◌, length, ℤ, pos, negsuc, ◌≤ℤ◌}
 use Rattle.calculus.specs.Limits.{most_bytes}
 use Rattle.calculus.specs.Lists.{Each, gather}
-use Rattle.calculus.specs.Terms.{Term, SetVar}
+use Rattle.calculus.specs.Terms.{Term}
 use Rattle.calculus.specs.Relations.{equal, union, disjoint, subset, intersection, unequal}
 use Rattle.calculus.specs.Meaning.{Constraint, member, nonmember, same, different, relation, negation, exactly, interval}
 use Rattle.calculus.specs.Problem.{Problem, set_count, Rising, Valid}

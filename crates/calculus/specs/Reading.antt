@@ -1,5 +1,5 @@
 -- Questions 1 to 11: the problem that bytes hold, or the number of the first question answered "no".
-use Rattle.std.specs.Prelude.{Bool, true, false, ◌&&◌, cond, List, [], ◌∷◌, ◌++◌, map, ℕ, zero, suc, ◌+◌, ◌*◌, ◌-◌, length, get_or, take, drop, leb, ltb, eqb, ℤ, pos, negsuc}
+use Rattle.std.specs.Prelude.{Bool, true, false, ◌&&◌, cond, List, [], ◌∷◌, map, ℕ, zero, suc, ◌+◌, ◌*◌, ◌-◌, length, get_or, take, drop, leb, ltb, eqb, ℤ, pos, negsuc}
 use Rattle.std.proofs.Math.IntN.{suc_ℤ}
 use Rattle.std.specs.Int.Signed.{lt_z, le_z}
 use Rattle.calculus.specs.Limits.{most_bytes, most_sets, most_constraints, most_terms}

@@ -1,5 +1,5 @@
 -- Rules as data, and the tables of the rules of kinds 5 to 10.
-use Rattle.std.specs.Prelude.{Bool, true, false, ◌&&◌, ◌||◌, not, cond, List, [], ◌∷◌, ◌++◌, map, ℕ, zero, suc, ◌+◌}
+use Rattle.std.specs.Prelude.{Bool, ◌&&◌, ◌||◌, not, List, [], ◌∷◌, ◌++◌, map, ℕ}
 use Rattle.calculus.specs.Lists.{imp, all, any}
 
 -- A rule at a place, over any type F of facts. It applies where every premise is known and of no list of blockers all facts are known. Each list of alternatives makes a child.

@@ -1,5 +1,5 @@
 -- The twenty rules at their places, in the order of the search; and what is done next in a branch.
-use Rattle.std.specs.Prelude.{Bool, true, false, not, List, [], ◌∷◌, ◌++◌, map, ℕ, zero, suc, ◌+◌, length, eqb}
+use Rattle.std.specs.Prelude.{not, List, [], ◌∷◌, ◌++◌, map, ℕ, suc, length, eqb}
 use Rattle.std.proofs.Math.Option.{Option, none, some}
 use Rattle.calculus.specs.Lists.{keep, first, gather, picked}
 use Rattle.calculus.specs.Terms.{Term, SetVar, terms_from}

@@ -1,9 +1,8 @@
 -- The answer word by arithmetic.
-use mathlib.Core.Path.{◌≡◌, refl, sym, ap, ◌∙◌}
+use mathlib.Core.Path.{◌≡◌, refl}
 use Prim.Native.Nat.{ℕ, zero, suc, ◌+◌, ◌*◌}
 use native.Mathlib.Omega.{arith}
-use borrow.Author.Tests.{eq-eqb, ne_eqb}
-use Rattle.calculus.specs.Run.{DONE, SPENT, NOROOM}
+use borrow.Author.Tests.{ne_eqb}
 use Rattle.calculus.specs.Calls.{refusal, ended, verdict_of, answer_word}
 use Rattle.records.specs.State.{end_of}
 

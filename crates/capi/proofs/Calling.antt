@@ -9,8 +9,7 @@ use Rattle.calculus.specs.Problem.{Problem}
 use Rattle.calculus.specs.Encoding.{Bytes}
 use Rattle.calculus.specs.Reading.{Parsed, parsed, refused, read}
 use Rattle.calculus.specs.Run.{End, DONE, SPENT, NOROOM, Tally, run}
-use Rattle.calculus.specs.Calls.{Answer, refusal, ended, Outcome, verdict_of, asked, call, answered, answer_word}
-use Rattle.calculus.specs.Calls as calls
+use Rattle.calculus.specs.Calls.{refusal, ended, Outcome, verdict_of, asked, call, answer_word}
 use Rattle.calculus.proofs.AnswerLaws.{steps_few, forms_fit}
 use Rattle.calculus.proofs.CallLaws.{asks, kept}
 use Rattle.problem.specs.declared.Table.{Table}

@@ -1,24 +1,22 @@
 -- What an assignment check answers, question by question.
 use mathlib.Core.Path.{◌≡◌, refl, sym, ap, ◌∙◌, subst}
 use mathlib.Core.Bool.{true, false}
-use mathlib.Core.Option.{Option, none, some}
+use mathlib.Core.Option.{Option}
 use mathlib.Core.List.{List}
 use Prim.Native.Nat.{ℕ, ◌+◌, ◌*◌, ◌<◌, ◌≤◌}
 use native.Mathlib.Omega.{arith}
-use lib.ListN.{length}
-use lib.IntN.{pos}
 use borrow.Author.Tests.{lt-ltb, le-ltb}
-use Rattle.calculus.specs.Problem.{Problem, set_count, values}
-use Rattle.calculus.specs.Reading.{Parsed, parsed, refused, read, ◌>>=◌}
-use Rattle.calculus.specs.Encoding.{Bytes, Handed}
-use Rattle.calculus.specs.Check.{read_assignment, assignment_of, lowest}
+use Rattle.calculus.specs.Problem.{Problem}
+use Rattle.calculus.specs.Reading.{parsed, refused, read, ◌>>=◌}
+use Rattle.calculus.specs.Encoding.{Bytes}
+use Rattle.calculus.specs.Check.{read_assignment, lowest}
 use Rattle.calculus.specs.Calls.{refusal, Checked, declined, HOLDS, FAILS, checked_by, check, answer_word, check_word}
 use Rattle.calculus.proofs.Checking.{checks}
 use Rattle.problem.specs.declared.Table.{Table}
 use Rattle.problem.specs.Table.{problem_table, Opened, constraints_of}
 use Rattle.problem.proofs.Access.{opened}
 use Rattle.assignment.specs.declared.Layout.{Layout}
-use Rattle.assignment.specs.Laid.{read_handed, Laid, Lays}
+use Rattle.assignment.specs.Laid.{read_handed, Lays}
 use Rattle.checker.specs.Tested.{seen, Fitting, failing}
 use Rattle.checker.proofs.Agreeing.{lowest_seen}
 use Rattle.capi.specs.Contract.{CheckContract}

@@ -1,6 +1,6 @@
 -- An assignment check whose word is the definition's meets the contract.
-use mathlib.Core.Path.{◌≡◌, refl, sym, ap, ◌∙◌, subst}
-use mathlib.Core.Logic.{◌↔◌, ◌⊎◌, inl, inr}
+use mathlib.Core.Path.{◌≡◌, refl, sym, ap, ◌∙◌}
+use mathlib.Core.Logic.{◌⊎◌, inl, inr}
 use mathlib.Core.List.{List}
 use Prim.Native.Nat.{ℕ, ◌<◌}
 use native.Mathlib.Omega.{arith}
@@ -9,7 +9,7 @@ use Rattle.calculus.specs.Problem.{Problem, Satisfies}
 use Rattle.calculus.specs.Reading.{Parsed, parsed, refused, read}
 use Rattle.calculus.specs.Encoding.{Bytes, Handed}
 use Rattle.calculus.specs.Check.{read_assignment, assignment_of}
-use Rattle.calculus.specs.Calls.{Checked, declined, HOLDS, FAILS, check, check_word, checked_number}
+use Rattle.calculus.specs.Calls.{Checked, declined, HOLDS, FAILS, check, check_word}
 use Rattle.calculus.proofs.AnswerLaws.{answers}
 use Rattle.calculus.proofs.Checking.{checks}
 use Rattle.calculus.proofs.ReadsWritten.{reads}

@@ -5,7 +5,7 @@ use mathlib.Core.List.{List, [], ◌∷◌}
 use Prim.Native.Nat.{ℕ, suc, ◌*◌, ◌≤◌}
 use native.Mathlib.Nat.{zero-mul}
 use native.Mathlib.Omega.{arith}
-use lib.ListN.{length, take, drop}
+use lib.ListN.{length, drop}
 use lib.IntN.{ℤ}
 use Rattle.calculus.specs.Terms.{Term}
 use Rattle.calculus.specs.Lists.{Each, Some}
@@ -13,10 +13,9 @@ use Rattle.calculus.specs.Branch.{start}
 use Rattle.calculus.specs.Problem.{Problem, term_count, set_count, Assignment, values, Satisfies}
 use Rattle.calculus.specs.Encoding.{Bytes, Written}
 use Rattle.calculus.specs.Reading.{Parsed, parsed, refused, read}
-use Rattle.calculus.specs.Forms.{record_length, listed_forms, Agrees, SatisfiesForm}
-use Rattle.calculus.specs.Calls.{Verdict, FORMS, FALSE, SPENT, NOROOM, Answer, refusal, ended, Outcome, asked, call, answered, answer_word, answer_number, verdict_number}
+use Rattle.calculus.specs.Forms.{record_length, Agrees, SatisfiesForm}
+use Rattle.calculus.specs.Calls.{Verdict, FORMS, FALSE, SPENT, NOROOM, Answer, refusal, ended, Outcome, asked, call, answer_word, verdict_number}
 use Rattle.calculus.specs.Order.{Progress, unbegun, Works}
-use Rattle.calculus.specs.Demands.{Unpacks}
 use Rattle.calculus.proofs.AnswerLaws.{answers}
 use Rattle.calculus.proofs.CallLaws.{asked_parsed, kept, follows, same_solutions, covers, only_solutions}
 use Rattle.calculus.proofs.CallQuestions.{refusals}

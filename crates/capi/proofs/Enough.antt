@@ -10,7 +10,7 @@ use Rattle.calculus.specs.Problem.{Problem, term_count}
 use Rattle.calculus.specs.Calls.{Answer, refusal, ended, call, pack, verdict_number, answer_word, check, check_word}
 use Rattle.calculus.specs.Order.{Progress, unbegun, Works}
 use Rattle.calculus.specs.Forms.{record_length}
-use Rattle.capi.specs.Contract.{verdict_in, number_in, steps_in, forms_in, listed_bytes, progress_in, RefusedIn, Ran, RunContract, Determined, CheckContract, Enough}
+use Rattle.capi.specs.Contract.{verdict_in, number_in, steps_in, forms_in, listed_bytes, progress_in, RefusedIn, RunContract, Determined, CheckContract, Enough}
 use Rattle.capi.proofs.Contracted as run
 use Rattle.capi.proofs.CheckedCall as checked
 

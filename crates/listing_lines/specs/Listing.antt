@@ -63,7 +63,7 @@ lines_of (parsed prob) o = heading o.answer ∷ map (form_line prob) (form_recor
 unfoldable pub listing : List ℕ → List (List ℕ)
 listing bytes = lines_of (read bytes) (program_call bytes)
 
--- The text that the program is to write: the lines of the input's listing, one after the other. Its proof shows that turn i of its loop has line i of the listing in a buffer. No contract can say that the loop hands these lines to standard output, in their order and each once.
+-- The text that the program is to write: the lines of the input's listing, one after the other. The program's `list` promises just that of its writer. No contract can say what standard output then holds.
 abbrev pub written : List ℕ → List ℕ
 written bytes = gather (λ (l : List ℕ). l) (listing bytes)
 

@@ -13,7 +13,7 @@ use Rattle.calculus.specs.Terms.{Term, SetVar, term}
 use Rattle.calculus.specs.Relations.{Rule, Literal, Operand, Relation, equal, union, disjoint, subset, intersection, unequal, negation_row, operand_of}
 use Rattle.calculus.specs.Relations as R
 use Rattle.calculus.specs.Meaning.{Constraint, member, nonmember, same, different, relation, negation, exactly, interval}
-use Rattle.calculus.specs.Branch.{Branch, root, Fact, In, Same, assert, assert_all}
+use Rattle.calculus.specs.Branch.{Branch, root, Fact, Same, assert, assert_all}
 use Rattle.calculus.specs.Order.{Ranged}
 use Rattle.calculus.specs.Invariants.{WellFormed, ConstraintIn}
 use Rattle.calculus.specs.Search.{fact_of, at, distinct, children}

@@ -1,10 +1,10 @@
 -- The children of a step by number. Some numbers have none: the branch that a conflict leaves out, and a class of entries that stood before.
-use Rattle.std.specs.Prelude.{Bool, true, false, cond, List, [], ℕ, length, get_or, take, eqb}
+use Rattle.std.specs.Prelude.{cond, List, [], ℕ, length, get_or, take, eqb}
 use Rattle.std.proofs.Math.Option.{Option, none}
 use Rattle.calculus.specs.Lists.{any}
 use Rattle.calculus.specs.Terms.{Term, term}
 use Rattle.calculus.specs.Meaning.{Constraint}
-use Rattle.calculus.specs.Branch.{Branch, root_at, root, Fact, Same, assert, assert_all}
+use Rattle.calculus.specs.Branch.{Branch, root_at, root, Same, assert, assert_all}
 use Rattle.places.specs.Places.{move_at, entries_of}
 
 -- how many numbers rule j has: the splits 7 and 12 two, rule 20 one for each entry, any other one

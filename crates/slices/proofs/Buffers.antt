@@ -6,9 +6,7 @@ use native.Mathlib.Omega.{arith}
 use native.Mathlib.Nat.{add-zero, zero-add}
 use lib.ListN.{length, length-append, length-drop, take, drop, take-append-drop}
 use lib.Seq.{paste, take-length, take_at, drop_at, drop-drop, length-take-le}
-use Rattle.calculus.specs.Forms.{record_length}
 use Rattle.calculus.specs.Calls.{over}
-use Rattle.calculus.proofs.RecordFields.{record_is_long}
 use Rattle.slices.specs.Bytes.{put_at}
 
 -- a copy of all the bytes

@@ -1,6 +1,6 @@
 -- A turn writes the next of the bytes; at the return all are written.
-use Rattle.std.proofs.Common.{arith, ◌<◌, ◌+◌, length, ◌∙◌, add-one}
-use lib.Seq.{paste, paste-zero, paste-suc}
+use Rattle.std.proofs.Common.{arith, ◌∙◌, add-one}
+use lib.Seq.{paste-zero, paste-suc}
 use Rattle.slices.proofs.Buffers.{paste_whole}
 use Rattle.slices.proofs.put.Goals as goal
 

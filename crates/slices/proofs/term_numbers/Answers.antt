@@ -1,7 +1,7 @@
 -- A turn writes the next number; at the return all are written.
 use Rattle.std.proofs.Common.{arith, ◌∙◌, ap, List, ℕ, set, refl}
 use Rattle.calculus.specs.Limits.{most_terms}
-use Rattle.slices.proofs.Counting.{counted, count_more, count_done}
+use Rattle.slices.proofs.Counting.{count_more, count_done}
 use Rattle.slices.proofs.term_numbers.Goals as goal
 
 pub loop-t-init : goal.loop-t-init
