@@ -1,81 +1,67 @@
 -- What an assignment check answers, question by question.
-use mathlib.Core.Path.{◌≡◌, refl, sym, ap, ◌∙◌, subst}
-use mathlib.Core.Bool.{true, false}
-use mathlib.Core.Option.{Option}
+use mathlib.Core.Path.{◌≡◌, refl, sym, ap, ◌∙◌}
+use mathlib.Core.Option.{Option, some, none}
 use mathlib.Core.List.{List}
-use Prim.Native.Nat.{ℕ, ◌+◌, ◌*◌, ◌<◌, ◌≤◌}
+use Prim.Native.Nat.{ℕ, ◌+◌, ◌*◌}
 use native.Mathlib.Omega.{arith}
-use borrow.Author.Tests.{lt-ltb, le-ltb}
+use Rattle.std.specs.Prelude as result
+use Rattle.std.specs.Prelude.{Some}
 use Rattle.calculus.specs.Problem.{Problem}
 use Rattle.calculus.specs.Reading.{parsed, refused, read, ◌>>=◌}
 use Rattle.calculus.specs.Encoding.{Bytes}
 use Rattle.calculus.specs.Check.{read_assignment, lowest}
-use Rattle.calculus.specs.Calls.{refusal, Checked, declined, HOLDS, FAILS, checked_by, check, answer_word, check_word}
+use Rattle.calculus.specs.Calls.{refusal, declined, checked_by, check, answer_word, check_word}
 use Rattle.calculus.proofs.Checking.{checks}
-use Rattle.problem.specs.declared.Table.{Table}
-use Rattle.problem.specs.Table.{problem_table, Opened, constraints_of}
-use Rattle.problem.proofs.Access.{opened}
-use Rattle.assignment.specs.declared.Layout.{Layout}
+use Rattle.problem.specs.declared.table.Table.{Table}
+use Rattle.problem.specs.Table.{problem_table, TableOf, constraints_of}
+use Rattle.problem.specs.declared.accepted.Problem as code
+use Rattle.assignment.specs.declared.Assignment.{Assignment}
 use Rattle.assignment.specs.Laid.{read_handed, Lays}
-use Rattle.checker.specs.Tested.{seen, Fitting, failing}
+use Rattle.checker.specs.declared.seen.Seen.{Seen}
+use Rattle.checker.specs.Tested.{seen, failing}
 use Rattle.checker.proofs.Agreeing.{lowest_seen}
 use Rattle.capi.specs.Contract.{CheckContract}
+use Rattle.capi.proofs.Calling.{ReadAs}
 use Rattle.capi.proofs.CheckedCall.{contract}
 
-fails_word : (i : ℕ) → 6 + 256 * i ≡ check_word (FAILS i)
-unfolding check_word
-fails_word i = omega arith
-
-holds_word : 5 ≡ check_word HOLDS
-unfolding check_word
-holds_word = refl
-
-module _ (bs hs : List ℕ) (is : Bytes bs) (are : Bytes hs) where
-  -- what the call ensures
-  abbrev Ensures : ℕ → Type 0
-  Ensures w = (w ≡ check_word (check bs hs)) × CheckContract bs hs w
-
-  contract_of : (c : Checked) → check bs hs ≡ c → (w : ℕ) → w ≡ check_word c → Ensures w
-  contract_of c e w q = rw q (subst (λ (x : Checked). Ensures (check_word x)) e (refl, contract bs hs is are))
+module _ (bs hs : List ℕ) where
+  -- what is determined meets the contract
+  pub contracted : Bytes bs → Bytes hs → (w : ℕ) → w ≡ check_word (check bs hs) → CheckContract bs hs w
+  contracted is are w e = rw e (contract bs hs is are)
 
   -- the word of a refusal is that of a run's
-  declined_word : (n : ℕ) → answer_word (refusal n) ≡ check_word (declined n)
+  declined_so : (n : ℕ) → check bs hs ≡ declined n → answer_word (refusal n) ≡ check_word (check bs hs)
   unfolding answer_word check_word
-  declined_word n = refl
+  declined_so n e = rw e refl
 
-  pub check_declined : (n : ℕ) → check bs hs ≡ declined n → (w : ℕ) → w ≡ answer_word (refusal n) → Ensures w
-  check_declined n e w q = contract_of (declined n) e w (q ∙ declined_word n)
+  pub no_problem : (n : ℕ) → read bs ≡ refused n → answer_word (refusal n) ≡ check_word (check bs hs)
+  no_problem n e = declined_so n ((checks bs hs).0 n e)
 
-  pub problem_declined : (n : ℕ) → read bs ≡ refused n → check bs hs ≡ declined n
-  problem_declined n e = (checks bs hs).0 n e
-
-  module _ (tab : Table) (o : Opened bs tab) (at : Layout) (lay : Lays hs tab.variables tab.sets at) where
-    abbrev prob : Problem
-    prob = (opened bs tab o).prob
-
+  module _ (prob : Problem) (r : read bs ≡ parsed prob) (tab : Table) (shows : TableOf prob tab) where
     -- question 14 is that of this problem
     same_question : read_handed tab.variables tab.sets hs ≡ read_assignment prob hs
     unfolding read_handed read_assignment problem_table
-    same_question = ap (λ (t : Table). read_handed t.variables t.sets hs) (opened bs tab o).shows
+    same_question = ap (λ (t : Table). read_handed t.variables t.sets hs) shows
 
-    pub assignment_declined : at.ok ≡ false → check bs hs ≡ declined 14
-    assignment_declined q = ((checks bs hs).1 prob (opened bs tab o).reads).0 14 (sym same_question ∙ lay.declined q)
+    pub no_assignment : read_handed tab.variables tab.sets hs ≡ refused 14 → answer_word (refusal 14) ≡ check_word (check bs hs)
+    no_assignment q = declined_so 14 (((checks bs hs).1 prob r).0 14 (sym same_question ∙ q))
 
-    module _ (q : at.ok ≡ true) where
-      pub fitting : Fitting tab hs at
-      fitting = let l = (lay.accepted q).2 in record { numbers_there = λ i h. (l.numbers_are i h).0; members_there = λ A h. (l.members_are A h).0 }
+-- what was seen is tested
+module _ (bs hs : List ℕ) (p : code.Problem) (prob : Problem) (r : read bs ≡ parsed prob) (o : ReadAs bs prob p) (a : Assignment) (lay : Lays hs p.table.variables p.table.sets (Some a)) where
+  abbrev saw : Seen
+  saw = record { problem = p; handed = a; valued = omega (arith, lay.2.values_are.0, lay.2.many) }
 
-      module _ (r : ℕ) (e : lowest (seen bs tab hs at) 0 (constraints_of (read bs)) ≡ failing tab.constraints r) where
-        tested : check bs hs ≡ checked_by (parsed (failing tab.constraints r))
-        unfolding check ◌>>=◌ constraints_of
-        tested =
-            let a = lay.accepted q in
-            let p = (opened bs tab o).reads in
-            let x = rw p at e in
-            rw (p, sym same_question ∙ a.1) (ap (λ (y : Option ℕ). checked_by (parsed y)) (sym (lowest_seen bs tab o hs at prob p a.0 a.2) ∙ x))
+  tested : (t : result.Option ℕ) → lowest (seen saw) 0 (constraints_of (read p.bytes.now)) ≡ failing t → check bs hs ≡ checked_by (parsed (failing t))
+  unfolding check ◌>>=◌ constraints_of
+  tested t e =
+      let q : read p.bytes.now ≡ parsed prob = ap read o.0 ∙ r in
+      let x = rw q at e in
+      rw (r, sym (same_question bs hs prob r p.table o.1) ∙ lay.1) (ap (λ (y : Option ℕ). checked_by (parsed y)) (sym (lowest_seen saw prob q o.1 lay.0 lay.2) ∙ x))
 
-        pub check_fails : r < tab.constraints → (w : ℕ) → w ≡ 6 + 256 * r → Ensures w
-        check_fails l w u = contract_of (FAILS r) (tested ∙ rw (lt-ltb r tab.constraints l) refl) w (u ∙ fails_word r)
+  pub check_fails : (i : ℕ) → lowest (seen saw) 0 (constraints_of (read p.bytes.now)) ≡ some i → 6 + 256 * i ≡ check_word (check bs hs)
+  unfolding check_word
+  check_fails i e = rw (tested (Some i) e) (omega arith)
 
-        pub check_holds : tab.constraints ≤ r → Ensures 5
-        check_holds l = contract_of HOLDS (tested ∙ rw (le-ltb r tab.constraints l) refl) 5 holds_word
+  pub check_holds : lowest (seen saw) 0 (constraints_of (read p.bytes.now)) ≡ none → 5 ≡ check_word (check bs hs)
+  unfolding check_word
+  check_holds e = rw (tested result.None e) refl

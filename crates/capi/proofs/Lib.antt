@@ -1,4 +1,3 @@
-pub mod AnswerWords
 pub mod Contracted
 pub mod Calling
 pub mod CheckedCall

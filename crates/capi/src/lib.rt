@@ -1,81 +1,94 @@
 // The calls that the tablet's program makes, through crate capi_c. Each answers in one word; docs/ANSWER.md has its layout.
 #![tactic(auto)]
 
-ghost use Rattle.std.specs.Prelude.{◌≡◌, ◌≤◌};
+mod verdict;
+
+ghost use Rattle.std.specs.Prelude.{◌≡◌, ◌*◌, ◌≤◌, length};
 ghost use Rattle.calculus.specs.Limits.{most_steps};
 ghost use Rattle.calculus.specs.Calls.{refusal, ended, verdict_of, answer_word, check, check_word};
-ghost use Rattle.capi.specs.Contract.{RunContract, Determined, CheckContract};
+ghost use Rattle.questions.specs.Answers.{number_of};
 ghost use Rattle.records.specs.State.{end_of};
+ghost use Rattle.capi.specs.Contract.{RunContract, Determined, CheckContract};
+ghost use Rattle.capi.specs.Words.{word_of};
 
 use assignment::lay_out;
-use checker::lowest;
+use checker::Seen;
 use problem::read;
-use records::Counts;
-use solver::solve;
+use questions::Refusal;
+use records::Stop;
+use solver::{Ended, solve};
 use terms::MOST_STEPS;
+pub use verdict::Verdict;
 
 // The word of a refusal.
-fn declined(n: u8) -> u64
-    ensures { result ≡ answer_word (refusal n) }
+fn declined(no: Refusal) -> u64
+    ensures { result ≡ answer_word (refusal (number_of no)) }
 {
-    256 * (n as u64)
+    256 * (no as u64)
+}
+
+// The word of a call, or of its refusal.
+fn word(answer: Result<u64, Refusal>) -> u64
+    ensures { result ≡ word_of answer }
+{
+    answer.unwrap_or_else(declined)
 }
 
 // The word of a run that ended. A run takes at most 10,000 steps and lists at most 650,001 forms.
-fn ended(c: Counts) -> u64
-    requires { (c.steps ≤ most_steps) × (c.forms ≤ 650001) }
-    ensures { result ≡ answer_word (ended (verdict_of (end_of c.stop) c.forms) c.steps c.forms) }
+fn ended(run: Ended) -> u64
+    requires { (run.counts.steps ≤ most_steps) × (run.counts.forms ≤ 650001) }
+    ensures { result ≡ answer_word (ended (verdict_of (end_of run.end) run.counts.forms) run.counts.steps run.counts.forms) }
 {
-    let steps = c.steps as u64;
-    let forms = c.forms as u64;
-    let counts = 65536 * steps + 4294967296 * forms;
-    if c.stop == 1 {
-        return 3 + counts;
+    let verdict = match run.end {
+        Err(Stop::Spent) => Verdict::Spent,
+        Err(Stop::NoRoom) => Verdict::NoRoom,
+        Ok(()) if run.counts.forms == 0 => Verdict::False,
+        Ok(()) => Verdict::Forms,
+    };
+    verdict as u64 + 65536 * run.counts.steps as u64 + 4294967296 * run.counts.forms as u64
+}
+
+// The word of a run, or why the call is refused.
+fn run(problem: &[u8], budget: u64, forms: &mut [u8], trace: &mut [u8]) -> Result<u64, Refusal>
+    ensures { Determined problem.now budget forms.old trace.old (word_of result) forms.new trace.new }
+{
+    let problem = read(problem)?;
+    if budget > MOST_STEPS as u64 {
+        return Err(Refusal::Budget);
     }
-    if c.stop != 0 {
-        return 4 + counts;
+    let steps = budget as usize;
+    if trace.len() < 4 * steps {
+        return Err(Refusal::Trace);
     }
-    if forms == 0 {
-        return 2 + counts;
-    }
-    1 + counts
+    Ok(ended(solve(&problem, steps, forms, trace)))
 }
 
 // Runs a problem: lists its solved forms, and traces its steps.
 pub fn fuselinda_run(problem: &[u8], budget: u64, forms: &mut [u8], trace: &mut [u8]) -> u64
     ensures { Determined problem.now budget forms.old trace.old result forms.new trace.new × RunContract problem.now budget forms.old trace.old result forms.new trace.new }
 {
-    let tab = read(problem);
-    let n = tab.refusal;
-    if n != 0 {
-        return declined(n);
-    }
-    if (MOST_STEPS as u64) < budget {
-        return declined(12);
-    }
-    let steps = budget as usize;
-    if trace.len() < 4 * steps {
-        return declined(13);
-    }
-    ended(solve(problem, tab, steps, forms, trace))
+    word(run(problem, budget, forms, trace))
+}
+
+// The word of an assignment check, or why the call is refused.
+fn checked(problem: &[u8], assignment: &[u8]) -> Result<u64, Refusal>
+    ensures { word_of result ≡ check_word (check problem.now assignment.now) }
+{
+    let problem = read(problem)?;
+    let table = problem.table;
+    let Some(handed) = lay_out(assignment, table.variables, table.sets) else {
+        return Err(Refusal::Assignment);
+    };
+    let seen = Seen { problem, handed };
+    Ok(match seen.lowest() {
+        Some(i) => Verdict::Fails as u64 + 256 * i as u64,
+        None => Verdict::Holds as u64,
+    })
 }
 
 // Checks an assignment that was worked by hand.
 pub fn fuselinda_check(problem: &[u8], assignment: &[u8]) -> u64
     ensures { (result ≡ check_word (check problem.now assignment.now)) × CheckContract problem.now assignment.now result }
 {
-    let tab = read(problem);
-    let question = tab.refusal;
-    if question != 0 {
-        return declined(question);
-    }
-    let at = lay_out(assignment, tab.variables, tab.sets);
-    if !at.ok {
-        return declined(14);
-    }
-    let i = lowest(problem, tab, assignment, at);
-    if i < tab.constraints {
-        return 6 + 256 * (i as u64);
-    }
-    5
+    word(checked(problem, assignment))
 }

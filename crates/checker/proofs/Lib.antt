@@ -1,4 +1,4 @@
-pub mod Turns
-pub mod Testing
-pub mod Agreeing
+pub mod Pairs
 pub mod Holding
+pub mod Lowest
+pub mod Agreeing

@@ -1,10 +1,10 @@
 -- The laws of a constraint that is decoded, and of its entries. Assumes nothing.
 use mathlib.Core.Path.{◌≡◌, refl, sym, ap, ap₂, ◌∙◌, subst}
-use mathlib.Core.Logic.{◌≢◌}
+use mathlib.Core.Logic.{◌⊎◌, inl, inr}
 use mathlib.Core.List.{List, [], ◌∷◌, ◌++◌, map}
 use Prim.Native.Nat.{ℕ, zero, suc, ◌+◌, ◌-◌, ◌<◌, ◌≤◌}
 use native.Mathlib.Omega.{arith}
-use lib.ListN.{length, get_or, take, drop, length-append, length-drop, length-map}
+use lib.ListN.{length, get_or, take, drop, length-append, length-drop}
 use lib.Seq.{get_or-drop}
 use lib.IntN.{ℤ}
 use types.Run.{OneOf, miss}
@@ -22,9 +22,10 @@ use Rattle.calculus.proofs.ReadValid.{read_valid}
 use Rattle.calculus.proofs.ConstraintLaws.{constraints_within}
 use Rattle.terms.specs.declared.Term as terms
 use Rattle.terms.specs.declared.SetVar as sets
-use Rattle.slices.proofs.Parts.{AllBytes}
-use Rattle.problem.specs.declared.Table.{Table}
-use Rattle.problem.specs.Table.{problem_table, Opened, Stands, constraints_of, no_constraint, constraint_of, kind_of, witness_of}
+use Rattle.questions.specs.declared.kind.Kind.{Kind}
+use Rattle.questions.specs.Kinds.{code_of}
+use Rattle.problem.specs.declared.table.Table.{Table}
+use Rattle.problem.specs.Table.{problem_table, line_of, Opened, Stands, constraints_of, no_constraint, constraint_of, kind_of, witness_of}
 use Rattle.problem.proofs.Access.{Read, opened, Placed, placed, place_of, kind_read, witness_read, witness_is, opened_sizes}
 use Rattle.constraints.specs.declared.Entries.{Entries}
 use Rattle.constraints.specs.declared.Entries.TheVariants.{Written, Interval}
@@ -90,16 +91,6 @@ kind_sizes (calculus.relation relations.intersection A B C) = (omega arith, omeg
 kind_sizes (calculus.negation relations.unequal A B C u) = (omega arith, omega arith, omega arith, λ h. absurd (miss three 6 tt h))
 kind_sizes (calculus.exactly A es) = (omega arith, omega arith, omega arith, λ h. absurd (miss three 11 tt h))
 kind_sizes (calculus.interval A i j es) = (omega arith, omega arith, omega arith, λ h. omega arith)
-
--- k is none of 1 to n, as the last arm of a match knows it
-abbrev NoneTo : ℕ → ℕ → Type 0
-NoneTo zero k = Unit {0}
-NoneTo (suc n) k = NoneTo n k × (k ≢ suc n)
-
--- then it is 0 or above n
-above : (n k : ℕ) → 1 ≤ k → NoneTo n k → n < k
-above zero k l h = l
-above (suc n) k l h = omega (arith, above n k l h.0, h.1)
 
 -- ---- constraint i of a problem
 
@@ -168,7 +159,7 @@ no_entries (Negated k A B C w) a es = (refl, refl)
 no_entries (Listed k A) a es = absurd (a k A refl)
 
 -- where the table says that it stands, and what it says of its witness
-pub stands_there : (bs : List ℕ) (tab : Table) (i : ℕ) → Opened bs tab → i < tab.constraints → (i < most_constraints) × Stands bs i (get_or tab.offsets i 0) × (term (get_or tab.witnesses i 0) ≡ witness_of bs i)
+pub stands_there : (bs : List ℕ) (tab : Table) (i : ℕ) → Opened bs tab → i < tab.constraints → (i < most_constraints) × Stands bs i (line_of tab i).at × (term (line_of tab i).witness.0 ≡ witness_of bs i)
 stands_there bs tab i o l =
     let s = (placed bs tab i o l).small in
     (s, record { tab = tab; opened = o; there = l; offset = refl }, witness_read bs tab i o s)
@@ -191,34 +182,15 @@ module _ (bs : List ℕ) (i at : ℕ) (st : Stands bs i at) where
   here_length : length bs - at ≡ length (encode_constraint this) + length place.rest
   here_length = sym (length-drop at bs) ∙ ap length here ∙ length-append (encode_constraint this) place.rest
 
-  -- a kind byte that is none of 1 to 11 is 12
-  pub last_kind : NoneTo 11 (get_or bs at 0) → get_or bs at 0 ≡ 12
-  last_kind h =
-      let k = kind_sizes this in
-      let l : 1 ≤ get_or bs at 0 = omega (arith, k.0, kind_here) in
-      omega (arith, above 11 (get_or bs at 0) l h, k.1, kind_here)
-
   -- two operands are there
   pub two_operands : (i < most_constraints) × (at + 2 < length bs) × (length bs ≤ most_bytes)
   two_operands = (place.small, omega (arith, (kind_sizes this).2, here_length), place.short)
-
-  -- a third is there where the kind has one
-  pub third_operand : OneOf three (get_or bs at 0) → at + 3 < length bs
-  third_operand h = omega (arith, (kind_sizes this).3 (subst (OneOf three) kind_here h), here_length)
 
   abbrev prob : Problem
   prob = (opened bs st.tab st.opened).prob
 
   refers : Refers prob.constants (nameable prob) (set_count prob) this
   refers = let r = opened bs st.tab st.opened in of_problem bs st.tab i st.there r (Refers prob.constants (nameable prob) (set_count prob)) (read_valid bs prob r.reads).refers
-
-  -- constraint i is that of its kind over the bytes that follow its kind byte
-  pub reads_as : (w : ℕ) → term w ≡ witness_of bs i → (k : ℕ) → get_or bs at 0 ≡ k → this ≡ of_kind k (get_or bs (at + 1) 0) (get_or bs (at + 2) 0) (get_or bs (at + 3) 0) w (entries_of this)
-  reads_as w u k e =
-      let q : kind_of this ≡ k = sym kind_here ∙ e in
-      let h = by_kind prob.constants (nameable prob) (set_count prob) w place.rest this refers (λ k A B C v z. u ∙ witness_is bs st.tab i st.opened k A B C v z) in
-      let byte : (j : ℕ) → get_or (encode_constraint this ++ place.rest) j 0 ≡ get_or bs (at + j) 0 = λ j. ap (λ (xs : List ℕ). get_or xs j 0) (sym here) ∙ get_or-drop at bs j 0 in
-      rw (q, byte 1, byte 2, byte 3) at h
 
   -- its terms and sets are below the limits
   pub in_range : ConstraintIn most_terms most_sets this
@@ -232,14 +204,10 @@ module _ (bs : List ℕ) (i at : ℕ) (st : Stands bs i at) where
   module _ (r : Constraint) (is : this ≡ decoded (entries_of this) r) where
     -- a list's: as many as its count byte says
     module _ {A : sets.SetVar} (e : r ≡ Listed Written A) where
-      pub list_kind : kind_of this ≡ 11
-      list_kind = ap kind_of (is ∙ ap (decoded (entries_of this)) e)
-
-      pub list_unpacked : AllBytes bs → (es : List ℕ) → this ≡ calculus.exactly (set_var (get_or bs (at + 1) 0)) (map term es) → Unpacked bs i es r
-      list_unpacked known es h =
-          let n : get_or bs (at + 2) 0 ≡ length (map term es) = sym (get_or-drop at bs 2 0) ∙ ap (λ (xs : List ℕ). get_or xs 2 0) here ∙ ap (λ (l : calculus.Constraint). get_or (encode_constraint l ++ place.rest) 2 0) h in
+      pub list_unpacked : (es : List ℕ) → this ≡ calculus.exactly (set_var (get_or bs (at + 1) 0)) (map term es) → length es ≤ 255 → Unpacked bs i es r
+      list_unpacked es h n =
           let q : this ≡ calculus.exactly (set_var A.0) (map term es) = is ∙ ap₂ decoded (ap entries_of h) e in
-          unpacked es r (q ∙ ap (decoded (map term es)) (sym e)) (ap (λ (x : Constraint). entries_of (decoded (map term es) x)) e) (omega (arith, known (at + 2), length-map es term))
+          unpacked es r (q ∙ ap (decoded (map term es)) (sym e)) (ap (λ (x : Constraint). entries_of (decoded (map term es) x)) e) n
 
     -- an interval's: the numbers from its first entry to its last
     module _ {A : sets.SetVar} {t u : terms.Term} (e : r ≡ Listed (Interval t u) A) where
@@ -269,3 +237,48 @@ module _ (bs : List ℕ) (i at : ℕ) (st : Stands bs i at) where
     -- any other's: none
     pub others_unpacked : NoList r → Unpacked bs i [] r
     others_unpacked a = let n = no_entries r a (entries_of this) in unpacked [] r (is ∙ n.0) n.1 (omega arith)
+
+-- ---- its bytes, from its kind byte on
+
+module _ (bs : List ℕ) (tab : Table) (i : ℕ) (o : Opened bs tab) (l : i < tab.constraints) (line : List ℕ) (e : line ≡ drop (line_of tab i).at bs) where
+  abbrev there : Stands bs i (line_of tab i).at
+  there = (stands_there bs tab i o l).1
+
+  abbrev known : calculus.Constraint
+  known = constraint_of bs i
+
+  abbrev rest : List ℕ
+  rest = (place bs i (line_of tab i).at there).rest
+
+  begins : line ≡ encode_constraint known ++ rest
+  begins = e ∙ here bs i (line_of tab i).at there
+
+  lengths : length line ≡ length (encode_constraint known) + length rest
+  lengths = ap length begins ∙ length-append (encode_constraint known) rest
+
+  kind_byte : get_or line 0 0 ≡ kind_of known
+  kind_byte =
+      let z : (line_of tab i).at + 0 ≡ (line_of tab i).at = omega arith in
+      ap (λ (xs : List ℕ). get_or xs 0 0) e ∙ get_or-drop (line_of tab i).at bs 0 0 ∙ ap (λ (x : ℕ). get_or bs x 0) z ∙ kind_here bs i (line_of tab i).at there
+
+  -- its kind byte is a kind's
+  pub kind_known : ¬ ((get_or line 0 0 ≡ 0) ⊎ (12 < get_or line 0 0))
+  kind_known (inl z) = omega (arith, kind_byte, kind_sizes known)
+  kind_known (inr z) = omega (arith, kind_byte, kind_sizes known)
+
+  -- two operands are there
+  pub operands : 3 ≤ length line
+  operands = omega (arith, (kind_sizes known).2, lengths)
+
+  -- a third is there where the kind has one
+  pub third_operand : {k m : Kind} → code_of k ≡ get_or line 0 0 → k ≡ m → OneOf three (code_of m) → 4 ≤ length line
+  third_operand c q h = omega (arith, (kind_sizes known).3 (subst (OneOf three) (sym (ap code_of q) ∙ c ∙ kind_byte) h), lengths)
+
+  -- it is that of its kind over them
+  pub reads_as : {k m : Kind} → code_of k ≡ get_or line 0 0 → k ≡ m → known ≡ of_kind (code_of m) (get_or line 1 0) (get_or line 2 0) (get_or line 3 0) (line_of tab i).witness.0 (entries_of known)
+  reads_as {k} {m} c q =
+      let b : kind_of known ≡ code_of m = sym kind_byte ∙ sym c ∙ ap code_of q in
+      let w : term (line_of tab i).witness.0 ≡ witness_of bs i = (stands_there bs tab i o l).2 in
+      let p = prob bs i (line_of tab i).at there in
+      let h = by_kind p.constants (nameable p) (set_count p) (line_of tab i).witness.0 rest known (refers bs i (line_of tab i).at there) (λ k A B C v z. w ∙ witness_is bs tab i o k A B C v z) in
+      rw (b, sym begins) at h

@@ -34,7 +34,6 @@ use Rattle.places.specs.Places.{RuleOf, row_of, move_at, list_move, entries_of, 
 use Rattle.places.proofs.Offered.{by_position}
 use Rattle.constraints.specs.declared.Constraint.{Constraint as Coded}
 use Rattle.constraints.specs.declared.Constraint.TheVariants.{Member, Nonmember, Same as Equated, Different, Related, Negated, Listed}
-use Rattle.constraints.specs.declared.Relation.{Relation as CodedRelation}
 use Rattle.terms.specs.declared.SetVar.{SetVar as CodedSet}
 use Rattle.constraints.specs.declared.Negation.{Negation as CodedNegation}
 use Rattle.terms.specs.declared.Term.{Term as CodedTerm}
@@ -45,8 +44,8 @@ use Rattle.rules.specs.declared.Child.{Child}
 use Rattle.rules.specs.declared.Denial.{Denial}
 use Rattle.rules.specs.declared.Row.{Row as Code}
 use Rattle.rules.specs.declared.Split.{Split}
-use Rattle.rules.specs.Rows.{numbered, sets, HasRow, splitting, literal_number, laid, parted, denying}
-use Rattle.fits.specs.Words.{forced_word, divided_word, denied_word, met_word, LowChild, LowDenial, missed, OfRoots, ByEntries, Lent, Asked, Fits, FitsFor}
+use Rattle.rules.specs.Rows.{numbered, sets, splitting, literal_number, laid, parted, denying}
+use Rattle.fits.specs.Words.{forced_word, divided_word, denied_word, met_word, LowChild, LowDenial, missed, OfRoots, ByEntries, Asked, Fits, FitsFor}
 use Rattle.fits.proofs.TableTests.{row_of_relation, denied_row, forced_test, divided_test, denied_test}
 use Rattle.fits.proofs.Lowest.{at_one, first_map, map_map, first_range, single, one_fits, roots_fits}
 use Rattle.fits.proofs.RowBits.{known_in, known_out, applies_at, laid_low, parted_low, denying_low, forced_bits, divided_bits, met_bits, met_small, but_bits, but_three}
@@ -261,9 +260,9 @@ module _ {es : List ℕ} {word j : ℕ} {l m : Coded} (e : l ≡ m) (q : Asked e
   pub in_range : ConstraintIn most_terms most_sets (decoded (map term es) m)
   in_range = subst (λ (x : Coded). ConstraintIn most_terms most_sets (decoded (map term es) x)) e q.handled.in_range
 
-  pub fits_right : (ps rows : List ℕ) → Lent ps rows → (w : ℕ) → IsWord ps rows es j m w → FitsFor ps rows es l j w
-  fits_right ps rows lent w i n b few c s =
-      fits_of n b rows es j s.rows_are (subst Falls (sym s.parents_are) lent.rooted.falls) few l c q.of_rule w
+  pub fits_right : (ps rows : List ℕ) → Falls ps → (w : ℕ) → IsWord ps rows es j m w → FitsFor ps rows es l j w
+  fits_right ps rows fall w i n b few c s =
+      fits_of n b rows es j s.rows_are (subst Falls (sym s.parents_are) fall) few l c q.of_rule w
       (subst (λ (x : Coded). IsWord b.parents rows es j x w) (sym e) (subst (λ (qs : List ℕ). IsWord qs rows es j m w) (sym s.parents_are) i))
 
 -- what row_of, split_of and denial_of answer makes the right words
@@ -299,10 +298,3 @@ entries_low n es l h c = each_term n es (subst (Each (λ (e : Term). e.index < n
 
 pub entries_below : (es : List ℕ) (l : Coded) → Handled es l → Each (λ e. e < most_terms) es
 entries_below es l h = entries_low 64 es l h h.in_range
-
--- the number of a relation's rule
-pub related_number : {es : List ℕ} {word j : ℕ} {l : Coded} {k : CodedRelation} {A B C : CodedSet} → l ≡ Related k A B C → Asked es word l j → ¬ (j ≡ 12) → HasRow j A B
-related_number {es} {word} {j} {l} {k} {A} {B} {C} e q n =
-    let x = row_of_relation (relation_of k) (set_var A.0) (set_var B.0) (set_var C.0) j (subst (λ (x : Coded). RuleOf (decoded (map term es) x) j) e q.of_rule) in
-    let r = in_range e q in
-    record { low = x.low; high = x.high; no_negation = x.no_seven; no_split = n; first_set = r.0; second_set = r.1 }

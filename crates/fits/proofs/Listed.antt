@@ -1,7 +1,7 @@
 -- The roots of a list's entries, as the code finds them: at each entry the bits found and those to come are those of all.
 use mathlib.Core.Path.{◌≡◌, refl, sym, ap, ap₂, ◌∙◌}
 use mathlib.Core.Logic.{◌⊎◌, inl, inr}
-use mathlib.Core.Bool.{Bool, true, false, ◌&&◌, ◌||◌, not, cond, or-false, or_assoc}
+use mathlib.Core.Bool.{Bool, true, false, ◌&&◌, ◌||◌, not, or-false, or_assoc}
 use mathlib.Core.List.{List, [], ◌∷◌}
 use Prim.Native.Nat.{ℕ, suc, ◌+◌, ◌-◌, ◌^◌, ◌<◌, ◌≤◌}
 use native.Mathlib.Omega.{arith}
@@ -55,20 +55,6 @@ module _ (f : ℕ → ℕ) (list : List ℕ) where
 abbrev pub Missing : List ℕ → ℕ → List ℕ → ℕ → Type 0
 Missing ps row list p = missed ps row list ≡ missed ps row (drop p list)
 
-module _ (ps : List ℕ) (row : ℕ) (list : List ℕ) (p : ℕ) where
-  pub miss_end : length list ≤ p → Missing ps row list p → 0 ≡ missed ps row list
-  miss_end l m = sym (m ∙ ap (missed ps row) (drop_of_length-le list l))
-
-  module _ (l : p < length list) (m : Missing ps row list p) (h : ℕ) (e : h ≡ root_of ps (get_or list p 0)) where
-    here : missed ps row list ≡ cond (bit row h) (missed ps row (drop (suc p) list)) (2 ^ h)
-    here = m ∙ ap (missed ps row) (drop-cons list p 0 l) ∙ ap (λ (k : ℕ). cond (bit row k) (missed ps row (drop (suc p) list)) (2 ^ k)) (sym e)
-
-    pub miss_here : bit row h ≡ false → 2 ^ h ≡ missed ps row list
-    miss_here b = sym (here ∙ ap (λ (x : Bool). cond x (missed ps row (drop (suc p) list)) (2 ^ h)) b)
-
-    pub miss_next : bit row h ≡ true → Missing ps row list (p + 1)
-    miss_next b = here ∙ ap (λ (x : Bool). cond x (missed ps row (drop (suc p) list)) (2 ^ h)) b ∙ ap (λ (k : ℕ). missed ps row (drop k list)) (sym (add-one p))
-
 -- ---- rules 19 and 20
 
 -- what a has and b does not is nothing: b has all of a
@@ -89,9 +75,6 @@ entry_root ps h r (e ∷ es) t = go (or_cases (eqb e h) (any (λ (e : ℕ). eqb 
     go (inr q) ih = or_r (eqb (root_of ps e) h) (ih q)
 
 module _ (ps : List ℕ) (row : ℕ) (list : List ℕ) (j word : ℕ) (en : EntryBits list word) (x : ℕ) (is : x ≡ row) (l : x < 2 ^ 64) where
-  pub by_entries_19 : j ≡ 19 → (w : ℕ) → w ≡ missed ps x list → ByEntries ps row list j w
-  by_entries_19 q w f = record { of_19 = λ _ _. f ∙ ap (λ (k : ℕ). missed ps k list) is; of_20 = λ _ n. absurd (n q) }
-
   -- a root in the set that is an entry has an entry in its class
   in_class : OfRoots ps row → (h : ℕ) → h < most_terms → bit row h ≡ true → bit word h ≡ true → any (λ (e : ℕ). eqb (root_of ps e) h) list ≡ true
   in_class r h k b t = entry_root ps h (r h k b) list (sym (en.bits h) ∙ t)

@@ -1,12 +1,12 @@
 -- Words of bits: the roots at which a rule applies.
-use Rattle.std.specs.Prelude.{◌≡◌, Bool, true, false, ◌&&◌, not, cond, List, [], ◌∷◌, map, ℕ, ◌+◌, ◌-◌, ◌^◌, ◌≤◌, ◌<◌, length, get_or, eqb}
+use Rattle.std.specs.Prelude.{◌≡◌, Bool, true, false, ◌&&◌, not, cond, List, [], ◌∷◌, map, ℕ, ◌+◌, ◌-◌, ◌^◌, ◌≤◌, ◌<◌, get_or, eqb}
 use Rattle.std.proofs.Math.Option
 use Rattle.std.specs.Int.Bits.{bit_and, bit_or}
 use Rattle.calculus.specs.Limits.{most_sets, most_terms}
 use Rattle.calculus.specs.Lists.{Each, up_from, any, first, bit}
 use Rattle.calculus.specs.Meaning.{Constraint}
 use Rattle.calculus.specs.Branch.{Branch}
-use Rattle.calculus.specs.Invariants.{Falls, ConstraintIn}
+use Rattle.calculus.specs.Invariants.{ConstraintIn}
 use Rattle.branch.specs.Held.{root_of}
 use Rattle.branch.specs.Rows.{RowsOf, literal_count}
 use Rattle.terms.specs.declared.SetVar.{SetVar}
@@ -20,19 +20,6 @@ use Rattle.constraints.specs.declared.Constraint.{Constraint as Coded}
 use Rattle.constraints.specs.declared.Constraint.TheVariants.{Member, Nonmember, Same, Different, Related, Negated, Listed}
 use Rattle.constraints.specs.Decoded.{decoded, Handled}
 use Rattle.places.specs.Places.{RuleOf, move_at, first_at}
-
--- what is lent: the parents of the terms, and the rows of the literals
-pub record Parents (parents : List ℕ) : Type 0 where
-  pub sized : length parents ≡ most_terms
-  pub falls : Falls parents
-
-pub record Lent (parents rows : List ℕ) : Type 0 where
-  pub rooted : Parents parents
-  pub long : length rows ≡ literal_count
-
--- the rows, of which each literal has one
-abbrev pub Long : List ℕ → Type 0
-Long rows = length rows ≡ literal_count
 
 abbrev pub Low : Literal → Type 0
 Low l = l.0 < literal_count

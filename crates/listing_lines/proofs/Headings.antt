@@ -1,28 +1,42 @@
 -- The first line, from the answer word.
 use mathlib.Core.Path.{◌≡◌, refl, sym, ap, ◌∙◌}
-use mathlib.Core.List.{List, [], ◌∷◌, ◌++◌}
-use Prim.Native.Nat.{ℕ, ◌/◌, ◌%◌, ◌≤◌, ◌<◌}
+use mathlib.Core.List.{List}
+use Prim.Native.Nat.{ℕ, ◌+◌, ◌/◌, ◌%◌, ◌≤◌, ◌<◌}
 use native.Mathlib.Omega.{arith}
 use lib.ListN.{length}
 use borrow.Author.Tests.{eq-eqb, ne_eqb}
 use Rattle.calculus.specs.Calls.{Verdict, FORMS, FALSE, SPENT, NOROOM, Answer, refusal, ended, answer_word, verdict_number}
 use Rattle.calculus.proofs.AnswerLaws.{answers}
 use Rattle.capi.proofs.Contracted.{some_number}
-use Rattle.text.specs.Text.{decimal}
-use Rattle.listing_lines.specs.Listing.{heading, verdict_name, refused_name, steps_name, program_call}
+use Rattle.text.specs.Text.{decimal, Wrote}
+use Rattle.listing_lines.specs.Listing.{verdict_name, program_call}
 use Rattle.listing_lines.specs.Writing.{verdict_at, answer_in}
-use Rattle.text.proofs.Texts.{decimal_length}
+use Rattle.text.proofs.Texts.{decimal_length, wrote_length}
 
-pub heading_refused : (word : ℕ) → word % 256 ≡ 0 → heading (answer_in word) ≡ refused_name ++ (decimal (word / 256 % 256) ++ (10 ∷ []))
+pub refused_in : (word : ℕ) → word % 256 ≡ 0 → refusal (word / 256 % 256) ≡ answer_in word
 unfolding answer_in
-heading_refused word e = rw (eq-eqb (word % 256) 0 e) refl
+refused_in word e = rw (eq-eqb (word % 256) 0 e) refl
 
-pub heading_ended : (word : ℕ) → ¬ (word % 256 ≡ 0) → heading (answer_in word) ≡ verdict_name (verdict_at (word % 256)) ++ (decimal (word / 4294967296) ++ (steps_name ++ (decimal (word / 65536 % 65536) ++ (10 ∷ []))))
+pub ended_in : (word : ℕ) (v : Verdict) → ¬ (word % 256 ≡ 0) → v ≡ verdict_at (word % 256) → ended v (word / 65536 % 65536) (word / 4294967296) ≡ answer_in word
 unfolding answer_in
-heading_ended word n = rw (ne_eqb (word % 256) 0 n) refl
+ended_in word v n e = rw (ne_eqb (word % 256) 0 n, e) refl
 
-pub forms_short : (word : ℕ) → word < 18446744073709551616 → length (decimal (word / 4294967296)) ≤ 10
-forms_short word l = decimal_length 9 (word / 4294967296) (omega arith)
+pub other_verdict : (n : ℕ) → ¬ (n ≡ 1) → ¬ (n ≡ 2) → ¬ (n ≡ 3) → NOROOM ≡ verdict_at n
+other_verdict n a b c = rw (ne_eqb n 1 a, ne_eqb n 2 b, ne_eqb n 3 c) refl
+
+-- ---- a piece of at most n bytes was written where there was room for it
+
+pub piece : {d : List ℕ} {at : ℕ} {s : List ℕ} {e : ℕ} {d₁ : List ℕ} (n : ℕ) → length s ≤ n → at + n ≤ length d → Wrote d at s e d₁ → (e ≤ at + n) × (length d₁ ≡ length d)
+piece n l r w = (omega (arith, w.ends), wrote_length w (omega arith))
+
+pub forms_short : (n : ℕ) → n < 4294967296 → length (decimal n) ≤ 10
+forms_short n l = decimal_length 9 n (omega arith)
+
+pub name_short : (v : Verdict) → length (verdict_name v) ≤ 7
+name_short FORMS = omega arith
+name_short FALSE = omega arith
+name_short SPENT = omega arith
+name_short NOROOM = omega arith
 
 -- the answer of a call can be read back from its word
 verdict_back : (v : Verdict) → verdict_at (verdict_number v) ≡ v

@@ -15,7 +15,7 @@ use Rattle.calculus.specs.Encoding.{Handed}
 use Rattle.calculus.specs.Forms.{model_number, model, handed_model}
 use Rattle.calculus.proofs.Bools.{each_app, each_take}
 use Rattle.calculus.proofs.Sequences.{long, at}
-use Rattle.problem.specs.declared.Table.{Table}
+use Rattle.problem.specs.declared.table.Table.{Table}
 use Rattle.problem.specs.Table.{Opened}
 use Rattle.text.specs.Text.{number, separated, braces, assigned, led, Wrote}
 use Rattle.listing_lines.specs.Listing.{items, form_line}

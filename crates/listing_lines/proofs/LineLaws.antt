@@ -1,7 +1,7 @@
 -- The lines of a listing, from a run's answer word and form buffer.
 use mathlib.Core.Path.{◌≡◌, refl, sym, ap, ◌∙◌, subst}
 use mathlib.Core.List.{List, [], ◌∷◌, map}
-use Prim.Native.Nat.{ℕ, zero, suc, ◌+◌, ◌*◌, ◌/◌, ◌<◌, ◌≤◌}
+use Prim.Native.Nat.{ℕ, zero, suc, ◌+◌, ◌-◌, ◌*◌, ◌/◌, ◌<◌, ◌≤◌}
 use native.Mathlib.Omega.{arith}
 use native.Mathlib.Nat.{mul-zero, mul-suc, mul_comm, mul-le-mul_left, le_of_suc-le-suc}
 use lib.ListN.{length, get_or, take, drop, replicate, length-map, length-replicate, get_or-eq_default}
@@ -14,8 +14,12 @@ use Rattle.calculus.proofs.AnswerLaws.{answers}
 use Rattle.calculus.proofs.CallLaws.{asks, kept}
 use Rattle.calculus.proofs.Models.{models}
 use Rattle.calculus.proofs.Sequences.{each_at}
-use Rattle.problem.specs.declared.Table.{Table}
-use Rattle.problem.specs.Table.{problem_table, table_is, table_of, Opened}
+use Rattle.std.specs.Prelude.{Ok, Err}
+use Rattle.questions.specs.declared.refusal.Refusal.{Refusal}
+use Rattle.questions.specs.Answers.{Answers}
+use Rattle.problem.specs.declared.table.Table.{Table}
+use Rattle.problem.specs.declared.accepted.Problem as code
+use Rattle.problem.specs.Table.{problem_table, TableOf}
 use Rattle.capi.proofs.Contracted.{accepted}
 use Rattle.listing_lines.specs.Listing.{heading, form_line, program_call, forms_of, form_records, lines_of, listing}
 use Rattle.listing_lines.specs.Writing.{problem_of, problem_in, Shaped, answer_in, ProgramRan, line_at}
@@ -78,14 +82,14 @@ module _ (bytes : List ℕ) (word : ℕ) (forms : List ℕ) (ran : ProgramRan by
 
   -- the record of a form that is counted, and its line
   pub record Counted (prob : Problem) (j : ℕ) : Type 0 where
-    pub opens : (tab : Table) → tab ≡ table_of bytes → Opened bytes tab
+    pub reads : read bytes ≡ parsed prob
     pub fits : record_length (term_count prob) * j + record_length (term_count prob) ≤ length forms
     pub long : length forms ≡ 32768
     pub listed_is : Shaped prob (take (record_length (term_count prob)) (drop (record_length (term_count prob) * j) forms))
     pub line_is : line_at bytes (suc j) ≡ form_line prob (take (record_length (term_count prob)) (drop (record_length (term_count prob) * j) forms))
 
   pub counted_form : (j : ℕ) → j < word / 4294967296 → Counted (problem_in bytes) j
-  unfolding program_call line_at listing problem_of table_of table_is problem_table
+  unfolding program_call line_at listing problem_of
   counted_form j l = go (program_call bytes).answer refl
     where
       go : (a : Answer) → (program_call bytes).answer ≡ a → Counted (problem_in bytes) j
@@ -103,10 +107,28 @@ module _ (bytes : List ℕ) (word : ℕ) (forms : List ℕ) (ran : ProgramRan by
           let there : j < length (listed_forms terms c (program_call bytes).forms) = omega (arith, m, listed_length terms c (program_call bytes).forms) in
           let w = each_at _ (listed_forms terms c (program_call bytes).forms) [] (models bytes 1000 form_buffer trace_buffer a.prob a.reads v n c e) j there in
           let this : Counted a.prob j = record {
-            opens = λ tab t. record { made = t; accepted = rw a.reads at (ap (λ (x : Table). x.refusal) t) };
+            reads = a.reads;
             fits = omega (arith, room, k.5, long, mul-suc size j, length-replicate {A = ℕ} 32768 0);
             long = long;
-            listed_is = subst (Shaped a.prob) at (record { shape = w.2; valued = w.3 });
+            listed_is = subst (Shaped a.prob) at (record { shape = w.2; constant = w.3.constant; free = w.3.free; most = w.3.most });
             line_is = rw (a.reads, e) (map_at (form_line a.prob) (listed_forms terms c (program_call bytes).forms) [] j there ∙ ap (form_line a.prob) at);
           } in
           subst (λ (p : Problem). Counted p j) (sym (ap problem_of a.reads)) this
+
+-- what `read` answers where these bytes are a problem
+module _ (bytes : List ℕ) (prob : Problem) (e : read bytes ≡ parsed prob) where
+  abbrev pub ReadAs : Problem → code.Problem → Type 0
+  ReadAs q p = (p.bytes.now ≡ bytes) × TableOf q p.table
+
+  pub no_refusal : (q : Refusal) → ¬ Answers ReadAs (read bytes) (Err q)
+  no_refusal q h = rw e at h
+
+  pub same_bytes : (p : code.Problem) → Answers ReadAs (read bytes) (Ok p) → p.bytes.now ≡ bytes
+  same_bytes p h = (rw e at h).0
+
+  pub same_length : (p : code.Problem) → Answers ReadAs (read bytes) (Ok p) → record_length p.table.terms ≡ record_length (term_count prob)
+  unfolding problem_table
+  same_length p h = ap (λ (t : Table). record_length t.terms) (rw e at h).1
+
+pub part : (at size : ℕ) → at + size - at ≡ size
+part at size = omega arith

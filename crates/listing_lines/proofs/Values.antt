@@ -19,10 +19,10 @@ use Rattle.calculus.proofs.Parsers.{one, counted, answered, then, at_given}
 use Rattle.calculus.proofs.Sections.{First}
 use Rattle.calculus.proofs.ReadValid.{first_question, read_first}
 use Rattle.calculus.proofs.RecordFields.{no_longer}
-use Rattle.slices.specs.Bytes.{bytes_at}
-use Rattle.problem.specs.declared.Table.{Table}
+use Rattle.problem.specs.declared.table.Table.{Table}
 use Rattle.problem.specs.Table.{problem_table, Opened, constant_of, values_of}
-use Rattle.problem.proofs.Access.{opened, opened_sizes, constant_read}
+use Rattle.problem.proofs.Access.{opened, opened_sizes}
+use Rattle.listing_lines.specs.declared.form.Form.{Form}
 use Rattle.listing_lines.specs.Writing.{problem_of, problem_in, Shaped, inside_at}
 
 -- ---- the problem
@@ -91,22 +91,18 @@ module _ (bs : List ℕ) (tab : Table) (o : Opened bs tab) (r : List ℕ) (form 
     pub root_low : root ≤ t
     root_low = omega (arith, shown, form.shape.lowest t t in_range in_range refl)
 
-    pub constant_value : root < tab.constants → (x : ℕ) → x ≡ bytes_at bs (1 + 2 * root) → signed x ≡ model_number prob r (term t)
+    pub constant_value : root < tab.constants → constant_of bs root ≡ model_number prob r (term t)
     unfolding constant_of values_of
-    constant_value q x e =
+    constant_value q =
         let k = known bs tab o in
-        let c = (constant_read bs tab root o q).1 in
-        ap signed e ∙ c ∙ ap (λ (p : Parsed Problem). get_or (values_of p) root (pos 0)) k.reads
-        ∙ sym (form.valued.constant t root in_range (omega (arith, q, k.constants)) (ap (root_in r) shown ∙ form.shape.own t in_range))
-
-    pub constant_there : root < tab.constants → 2 + 2 * root < length bs
-    constant_there q = (constant_read bs tab root o q).0
+        ap (λ (p : Parsed Problem). get_or (values_of p) root (pos 0)) k.reads
+        ∙ sym (form.constant t root in_range (omega (arith, q, k.constants)) (ap (root_in r) shown ∙ form.shape.own t in_range))
 
     pub free_value : tab.constants ≤ root → signed (32001 + root) ≡ model_number prob r (term t)
     free_value q =
         let k = known bs tab o in
-        rw (lt-ltb (32001 + root) 32768 (omega (arith, shown, form.valued.most t in_range)))
-        (ap (λ (h : ℕ). pos (32001 + h)) shown ∙ sym (form.valued.free t in_range (λ i m e. omega (arith, q, shown, k.constants, m, form.shape.lowest t i in_range (omega arith) (sym e)))))
+        rw (lt-ltb (32001 + root) 32768 (omega (arith, shown, form.most t in_range)))
+        (ap (λ (h : ℕ). pos (32001 + h)) shown ∙ sym (form.free t in_range (λ i m e. omega (arith, q, shown, k.constants, m, form.shape.lowest t i in_range (omega arith) (sym e)))))
 
 -- whether the class of root t is in a set
 module _ (r : List ℕ) (A t : ℕ) where
@@ -115,3 +111,10 @@ module _ (r : List ℕ) (A t : ℕ) where
 
   pub a_root : root_in r t ≡ t → inside_at r A t ≡ bit (inside_in r t) A
   a_root e = rw (eq-eqb (root_in r t) t e) refl
+
+-- what is known of a form's problem
+pub known_of : (f : Form) → Known f.problem.bytes.now f.problem.table
+known_of f = known f.problem.bytes.now f.problem.table f.problem.opened
+
+pub term_of : (f : Form) (t : ℕ) → t < f.problem.table.terms → (t < most_terms) × (record_length (suc t) ≤ length f.record.now)
+term_of f = term_there f.problem.bytes.now f.problem.table f.problem.opened f.record.now f.shaped

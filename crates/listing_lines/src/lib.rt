@@ -1,52 +1,54 @@
 // The text of a listing.
 #![tactic(auto)]
 
+mod answer;
 mod form;
 
 ghost use Rattle.std.specs.Prelude.{◌≡◌, List, ℕ, ◌+◌, ◌/◌, ◌≤◌, length};
 ghost use Rattle.calculus.specs.Calls.{over};
 ghost use Rattle.text.specs.Text.{Wrote};
-ghost use Rattle.listing_lines.specs.Listing.{heading as Listing·heading, verdict_name, listing};
-ghost use Rattle.listing_lines.specs.Writing.{verdict_at, answer_in, ProgramRan, line_at};
+ghost use Rattle.listing_lines.specs.Listing.{heading, verdict_name, listing};
+ghost use Rattle.listing_lines.specs.Writing.{Small, run_verdict, run_answer, ProgramRan, line_at};
 
+use answer::Answer;
 use branch::record_length;
-use form::form_line;
+use capi::Verdict;
+use form::Form;
 use problem::read;
-use text::{decimal, say};
+use text::Text;
 
-// The name of a verdict.
-fn name(verdict: u64, text: &mut [u8]) -> usize
-    requires { 8 ≤ length text.old }
-    ensures { Wrote text.old 0 (verdict_name (verdict_at verdict)) result text.new × (result ≤ 7) }
+// The name of a run's verdict.
+fn name_of(verdict: Verdict) -> &'static [u8]
+    ensures { result.now ≡ verdict_name (run_verdict verdict) }
 {
-    if verdict == 1 {
-        return say(b"FORMS ", text, 0);
+    match verdict {
+        Verdict::Forms => b"FORMS ",
+        Verdict::False => b"FALSE ",
+        Verdict::Spent => b"SPENT ",
+        _ => b"NOROOM ",
     }
-    if verdict == 2 {
-        return say(b"FALSE ", text, 0);
-    }
-    if verdict == 3 {
-        return say(b"SPENT ", text, 0);
-    }
-    say(b"NOROOM ", text, 0)
 }
 
-// The first line, from the answer word of a run.
-fn heading(word: u64, text: &mut [u8]) -> usize
-    requires { 64 ≤ length text.old }
-    ensures { Wrote text.old 0 (Listing·heading (answer_in word)) result text.new }
+// The first line, of the answer of a run.
+fn say_heading(answer: Answer, text: &mut Text)
+    requires { Small answer × (text.old.end + 64 ≤ length text.old.buffer.now) }
+    ensures wrote { Wrote text.old.buffer.now text.old.end (heading (run_answer answer)) text.new.end text.new.buffer.now }
+    ensures same { text.new.buffer.ghost_name ≡ text.old.buffer.ghost_name }
 {
-    let verdict = word % 256;
-    if verdict == 0 {
-        let a = say(b"REFUSED ", text, 0);
-        let b = decimal(word / 256 % 256, text, a);
-        return say(b"\n", text, b);
+    match answer {
+        Answer::Refused(number) => {
+            text.say(b"REFUSED ");
+            text.decimal(number);
+            text.say(b"\n");
+        }
+        Answer::Ended(verdict, steps, forms) => {
+            text.say(name_of(verdict));
+            text.decimal(forms);
+            text.say(b" STEPS ");
+            text.decimal(steps);
+            text.say(b"\n");
+        }
     }
-    let a = name(verdict, text);
-    let b = decimal(word / 4294967296, text, a);
-    let c = say(b" STEPS ", text, b);
-    let d = decimal(word / 65536 % 65536, text, c);
-    say(b"\n", text, d)
 }
 
 // How many lines the listing has: the first, and one for each form.
@@ -61,15 +63,24 @@ pub fn line(problem: &[u8], word: u64, forms: &[u8], i: usize, text: &mut [u8]) 
     requires { ProgramRan problem.now word forms.now × (32768 ≤ length text.old) }
     ensures { (text.new ≡ over (line_at problem.now i) text.old) × (result ≡ length (line_at problem.now i)) }
 {
+    let mut text = Text {
+        buffer: text,
+        end: 0,
+    };
     if i == 0 {
-        return heading(word, text);
+        say_heading(Answer::from(word), &mut text);
+        return text.end;
     }
     if lines(word) <= i {
         return 0;
     }
-    let tab = read(problem);
-    let size = record_length(tab.terms);
+    let Ok(problem) = read(problem) else {
+        unreachable!()
+    };
+    let size = record_length(problem.table.terms);
     let from = size * (i - 1);
-    let end = from + size;
-    form_line(problem, tab, &forms[from..end], text)
+    let record = &forms[from..from + size];
+    let form = Form { problem, record };
+    form.say_line(&mut text);
+    text.end
 }

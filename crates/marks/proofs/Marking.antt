@@ -1,86 +1,85 @@
 -- The words by literal, in the loops of `mark`, `woken` and `prepare`. The first two take the lowest literal of a mask, so that the others are left to do. The third has the words right for the constraints before i.
-use mathlib.Core.Path.{◌≡◌, refl, sym, ap, ◌∙◌}
+use mathlib.Core.Path.{◌≡◌, refl, sym, ap, ap₂, ◌∙◌}
 use mathlib.Core.Logic.{◌⊎◌, inl, inr}
-use mathlib.Core.Bool.{Bool, true, false, ◌&&◌, ◌||◌, and-true, or-false, or_assoc}
-use mathlib.Core.List.{List, [], ◌∷◌}
-use Prim.Native.Nat.{ℕ, ◌+◌, ◌-◌, ◌^◌, ◌<◌, ◌≤◌}
+use mathlib.Core.Bool.{Bool, true, ◌&&◌, ◌||◌, or-false, or_assoc}
+use mathlib.Core.List.{List, map}
+use Prim.Native.Nat.{ℕ, zero, suc, ◌+◌, ◌^◌, ◌<◌, ◌≤◌}
 use native.Mathlib.Omega.{arith}
 use native.Mathlib.Decide.{ℕ_discrete}
 use lib.ListN.{length, get_or, set, replicate, length-set}
 use lib.Seq.{get_or-set_same, get_or-set_other}
 use lib.Dec.{eqb}
-use lib.Bits.{bit_and, bit_or}
-use lib.Count.{count_trailing_zeros}
-use borrow.Author.Tests.{eq-eqb, ne_eqb, eqb-true}
+use lib.Bits.{bit_or}
+use borrow.Author.Tests.{eq-eqb, eqb-true}
 use Rattle.calculus.specs.Limits.{most_constraints}
-use Rattle.calculus.specs.Lists.{up_from, any, keep, bit}
-use Rattle.calculus.specs.Terms.{Term}
+use Rattle.calculus.specs.Lists.{up_from, any, bit}
+use Rattle.calculus.specs.Terms.{Term, term}
+use Rattle.calculus.specs.Meaning as calculus
 use Rattle.calculus.specs.Reading.{read}
-use Rattle.calculus.proofs.Bools.{clash, and_i, and_r, or_cases, or_l, or_r}
+use Rattle.calculus.proofs.Bools.{clash, and_i, and_r, or_cases, or_l, or_r, any_map}
 use Rattle.calculus.proofs.Sequences.{zeros}
+use Rattle.bits.specs.Ones.{Takes}
+use Rattle.bits.proofs.Taking.{takes_here, takes_other, takes_left}
 use Rattle.bits.proofs.Bits.{bit_of_or, bit_pow, bit_zero, bit_low, no_bit}
-use Rattle.bits.proofs.Count.{lowest_set, lowest_keep, bit_less, less_lt}
-use Rattle.problem.specs.declared.Totals.{Totals}
-use Rattle.problem.specs.Table.{Tabled, constraints_of, constraint_of, table_by}
-use Rattle.problem.proofs.Access.{constraint_count}
+use Rattle.problem.specs.declared.table.Table.{Table}
+use Rattle.problem.specs.Table.{Opened, constraints_of, constraint_of}
+use Rattle.problem.proofs.Access.{opened_sizes, constraint_count}
 use Rattle.places.specs.Places.{entries_of}
 use Rattle.branch.specs.Rows.{literal_count}
 use Rattle.constraints.specs.declared.Constraint.{Constraint}
-use Rattle.constraints.specs.Decoded.{Unpacked}
+use Rattle.constraints.specs.Decoded.{decoded, Unpacked}
 use Rattle.fits.specs.Words.{EntryBits}
 use Rattle.quiet.specs.Quiet.{WordsOf, mark_count, mark_word, word_count, pair_mark, split_mark}
 use Rattle.marks.specs.Marks.{NeedsOf, Marked}
-use Rattle.marks.specs.Offsets.{AtOffset}
-use Rattle.marks.proofs.Offsets.{entries_by}
 
 -- ---- marking
 
 -- what marking the literals that are left makes of the words now, marking all makes of the words before
 pub record Marking (all i : ℕ) (before words : List ℕ) (left : ℕ) : Type 0 where
-  pub small : left < 2 ^ mark_count
+  pub low : (k : ℕ) → bit left k ≡ true → k < mark_count
   pub long : length words ≡ word_count
   pub rest : (after : List ℕ) → Marked left i words after → Marked all i before after
 
 pub mark_start : (i : ℕ) {all : ℕ} {words : List ℕ} → all < 2 ^ mark_count → length words ≡ word_count → Marking all i words words all
-mark_start i h n = record { small = h; long = n; rest = λ after r. r }
+mark_start i {all} h n = record { low = λ k e. bit_low mark_count all k h e; long = n; rest = λ after r. r }
 
 module _ {all i left : ℕ} {before words : List ℕ} (g : Marking all i before words left) where
   pub mark_end : left ≡ 0 → Marked all i before words
   mark_end e = g.rest words (record { long = refl; front = λ k h. refl; bits = λ k m. sym (ap (λ (x : Bool). bit (get_or words (mark_word k) 0) m || (x && eqb m i)) (no_bit left k e) ∙ or-false (bit (get_or words (mark_word k) 0) m)) })
 
   -- the lowest literal first, and then the others
-  module _ (some : ¬ (left ≡ 0)) where
-    abbrev low : ℕ
-    low = count_trailing_zeros 64 left
+  module _ {low then : ℕ} (t : Takes left low then) where
+    low_lt : low < mark_count
+    low_lt = g.low low t.set
 
-    wide : left < 2 ^ 64
-    wide = omega (arith, g.small)
-
-    pub low_lt : low < mark_count
-    low_lt = bit_low mark_count left low g.small (lowest_set 64 left wide some)
-
-    pub mark_next : {one : ℕ} → one ≡ 2 ^ i → Marking all i before (set words (mark_word low) (bit_or (get_or words (mark_word low) 0) one)) (bit_and left (left - 1))
-    mark_next {one} p = record { small = omega (arith, g.small, less_lt left some); long = length-set words (mark_word low) word ∙ g.long; rest = λ after r. g.rest after (both after r) }
+    pub mark_next : {one : ℕ} → one ≡ 2 ^ i → Marking all i before (set words (mark_word low) (bit_or (get_or words (mark_word low) 0) one)) then
+    mark_next {one} p = record { low = λ k e. g.low k (takes_left t k e); long = length-set words (mark_word low) word ∙ g.long; rest = λ after r. g.rest after (both after r) }
       where
         word : ℕ
         word = bit_or (get_or words (mark_word low) 0) one
 
-        same : (k m : ℕ) → Dec (k ≡ low) → (bit (get_or (set words (mark_word low) word) (mark_word k) 0) m || (bit (bit_and left (left - 1)) k && eqb m i)) ≡ (bit (get_or words (mark_word k) 0) m || (bit left k && eqb m i))
-        same k m (yes e) = rw (e, get_or-set_same words (mark_word low) word 0 (omega (arith, low_lt, g.long)), bit_of_or (get_or words (mark_word low) 0) one m, p, bit_pow i m, bit_less 64 left low wide some, lowest_set 64 left wide some, eq-eqb low low refl) (or-false (bit (get_or words (mark_word low) 0) m || eqb m i))
-        same k m (no e) = rw (get_or-set_other words (mark_word low) (mark_word k) word 0 (λ q. e (omega arith)), bit_less 64 left k wide some, ne_eqb k low e, and-true (bit left k)) refl
+        same : (k m : ℕ) → Dec (k ≡ low) → (bit (get_or (set words (mark_word low) word) (mark_word k) 0) m || (bit then k && eqb m i)) ≡ (bit (get_or words (mark_word k) 0) m || (bit left k && eqb m i))
+        same k m (yes e) = rw (e, get_or-set_same words (mark_word low) word 0 (omega (arith, low_lt, g.long)), bit_of_or (get_or words (mark_word low) 0) one m, p, bit_pow i m, takes_here t, t.set) (or-false (bit (get_or words (mark_word low) 0) m || eqb m i))
+        same k m (no e) = rw (get_or-set_other words (mark_word low) (mark_word k) word 0 (λ q. e (omega arith)), takes_other t k e) refl
 
-        both : (after : List ℕ) → Marked (bit_and left (left - 1)) i (set words (mark_word low) word) after → Marked left i words after
+        both : (after : List ℕ) → Marked then i (set words (mark_word low) word) after → Marked left i words after
         both after r = record { long = r.long ∙ length-set words (mark_word low) word; front = λ k h. r.front k h ∙ get_or-set_other words (mark_word low) k word 0 (λ e. omega arith); bits = λ k m. r.bits k m ∙ same k m (ℕ_discrete k low) }
 
 -- ---- gathering
 
-any_keep : (p q : ℕ → Bool) (xs : List ℕ) → any (λ (k : ℕ). p k && q k) xs ≡ any q (keep p xs)
-any_keep p q [] = refl
-any_keep p q (x ∷ xs) = go (p x) refl (any_keep p q xs)
-  where
-    go : (t : Bool) → p x ≡ t → any (λ (k : ℕ). p k && q k) xs ≡ any q (keep p xs) → ((p x && q x) || any (λ (k : ℕ). p k && q k) xs) ≡ any q (keep p (x ∷ xs))
-    go true e ih = rw (e, ih)
-    go false e ih = rw (e, ih)
+-- one bit first, and then the others
+module _ {s k t : ℕ} (takes : Takes s k t) (q : ℕ → Bool) where
+  same_above : (n a : ℕ) → k < a → any (λ (i : ℕ). bit s i && q i) (up_from a n) ≡ any (λ (i : ℕ). bit t i && q i) (up_from a n)
+  same_above zero a l = refl
+  same_above (suc n) a l = ap₂ (λ (x y : Bool). (x && q a) || y) (sym (takes_other takes a (λ e. omega arith))) (same_above n (suc a) (omega arith))
+
+  any_next : (n a : ℕ) → a ≤ k → k < a + n → any (λ (i : ℕ). bit s i && q i) (up_from a n) ≡ (q k || any (λ (i : ℕ). bit t i && q i) (up_from a n))
+  any_next zero a l h = absurd (omega arith)
+  any_next (suc n) a l h = go (ℕ_discrete a k) (any_next n (suc a))
+    where
+      go : Dec (a ≡ k) → (suc a ≤ k → k < suc a + n → any (λ (i : ℕ). bit s i && q i) (up_from (suc a) n) ≡ (q k || any (λ (i : ℕ). bit t i && q i) (up_from (suc a) n))) → any (λ (i : ℕ). bit s i && q i) (up_from a (suc n)) ≡ (q k || any (λ (i : ℕ). bit t i && q i) (up_from a (suc n)))
+      go (yes e) ih = rw (e, takes.set, takes_here takes) (ap (λ (x : Bool). q k || x) (same_above n (suc k) (omega arith)))
+      go (no e) ih = rw (takes_other takes a e, takes.lowest a (omega arith)) (ih (omega arith) (omega arith))
 
 -- constraint i needs a literal of the mask
 abbrev wakes : List ℕ → (mask i : ℕ) → Bool
@@ -88,26 +87,26 @@ wakes words mask i = any (λ (k : ℕ). bit mask k && bit (get_or words (mark_wo
 
 -- what is found, and what the literals that are left wake, is what all wake
 pub record Gathering (words : List ℕ) (all found left : ℕ) : Type 0 where
-  pub small : left < 2 ^ literal_count
+  pub low : (k : ℕ) → bit left k ≡ true → k < literal_count
   pub bits : (i : ℕ) → (bit found i || wakes words left i) ≡ wakes words all i
 
 pub gather_start : (words : List ℕ) {all left : ℕ} → left ≡ all → left < 2 ^ literal_count → Gathering words all 0 left
-gather_start words {all} {left} e h = record { small = h; bits = λ i. rw (bit_zero i, e) }
+gather_start words {all} {left} e h = record { low = λ k q. bit_low literal_count left k h q; bits = λ i. rw (bit_zero i, e) }
 
-pub gather_next : {words : List ℕ} {all found left : ℕ} → Gathering words all found left → ¬ (left ≡ 0) → Gathering words all (bit_or found (get_or words (most_constraints + count_trailing_zeros literal_count left) 0)) (bit_and left (left - 1))
-gather_next {words} {all} {found} {left} g some = record { small = omega (arith, g.small, less_lt left some); bits = λ i. rw (bit_of_or found lowest i, or_assoc (bit found i) (bit lowest i) (wakes words (bit_and left (left - 1)) i), ← next i) (g.bits i) }
+pub gather_next : {words : List ℕ} {all found left low then : ℕ} → Gathering words all found left → Takes left low then → Gathering words all (bit_or found (get_or words (mark_word low) 0)) then
+gather_next {words} {all} {found} {left} {low} {then} g t = record { low = λ k e. g.low k (takes_left t k e); bits = λ i. rw (bit_of_or found (word low) i, or_assoc (bit found i) (bit (word low) i) (wakes words then i), ← any_next t (λ k. bit (word k) i) literal_count 0 (omega arith) (omega (arith, g.low low t.set))) (g.bits i) }
   where
-    lowest : ℕ
-    lowest = get_or words (most_constraints + count_trailing_zeros literal_count left) 0
-
-    next : (i : ℕ) → wakes words left i ≡ (bit lowest i || wakes words (bit_and left (left - 1)) i)
-    next i = any_keep (bit left) (λ k. bit (get_or words (mark_word k) 0) i) (up_from 0 literal_count) ∙ ap (any (λ (k : ℕ). bit (get_or words (mark_word k) 0) i)) (lowest_keep 16 left g.small some)
-        ∙ ap (λ (x : Bool). bit lowest i || x) (sym (any_keep (bit (bit_and left (left - 1))) (λ k. bit (get_or words (mark_word k) 0) i) (up_from 0 literal_count)))
+    word : ℕ → ℕ
+    word k = get_or words (mark_word k) 0
 
 pub gather_end : {words : List ℕ} {all found left : ℕ} → Gathering words all found left → left ≡ 0 → (i : ℕ) → bit found i ≡ wakes words all i
 gather_end {words} {all} {found} g e i = sym (or-false (bit found i)) ∙ ap (λ (x : ℕ). bit found i || wakes words x i) (sym e) ∙ g.bits i
 
 -- ---- the words of the constraints before i
+
+-- the entries of constraint i are those of the list that it is unpacked with
+pub entries_by : {bs : List ℕ} {i : ℕ} {es : List ℕ} {l : Constraint} → Unpacked bs i es l → (h : ℕ) → any (λ (e : Term). eqb e.index h) (entries_of (constraint_of bs i)) ≡ any (λ (e : ℕ). eqb e h) es
+entries_by {es = es} u h = ap (λ (x : calculus.Constraint). any (λ (e : Term). eqb e.index h) (entries_of x)) u.is ∙ ap (any (λ (e : Term). eqb e.index h)) u.handled.entries_are ∙ any_map (λ (e : Term). eqb e.index h) term es
 
 abbrev FilledAt : List ℕ → List ℕ → ℕ → Type 0
 FilledAt bs words k = ((h : ℕ) → bit (get_or words k 0) h ≡ any (λ (e : Term). eqb e.index h) (entries_of (constraint_of bs k))) × (get_or words k 0 < 2 ^ 64)
@@ -122,34 +121,37 @@ pub record Filled (bs words : List ℕ) (i : ℕ) : Type 0 where
 pub fill_start : (bs : List ℕ) → Filled bs (replicate word_count 0) 0
 fill_start bs = record { long = refl; entries = λ k l. absurd (omega arith); needed = λ k l. absurd (omega arith); low = λ h k e. clash e (ap (λ (x : ℕ). bit x k) (zeros word_count (mark_word h)) ∙ bit_zero k); in_problem = omega arith }
 
-pub fill_next : {bs words after offsets witnesses : List ℕ} {i : ℕ} {es : List ℕ} {l : Constraint} {w literals : ℕ} → Filled bs words i → AtOffset bs offsets witnesses i → Unpacked bs i es l → EntryBits es w → NeedsOf (constraint_of bs i) literals → Marked literals i (set words i w) after → Filled bs after (i + 1)
-fill_next {bs} {words} {after} {i = i} {w = w} {literals} f t u b n m = record {
+pub fill_next : {bs words after : List ℕ} {i : ℕ} {es : List ℕ} {l : Constraint} {w literals : ℕ} → Filled bs words i → (tab : Table) → Opened bs tab → i < tab.constraints → Unpacked bs i es l → EntryBits es w → ((ts : List Term) → NeedsOf (decoded ts l) literals) → Marked literals i (set words i w) after → Filled bs after (i + 1)
+fill_next {bs} {words} {after} {i} {es} {w = w} {literals} f tab o t u b n m = record {
   long = m.long ∙ length-set words i w ∙ f.long;
   entries = λ k l. entry k l (ℕ_discrete k i);
   needed = λ k l. need k l (ℕ_discrete k i);
   low = λ h k e. lower h k (or_cases (bit (get_or words (mark_word h) 0) k) (bit literals h && eqb k i) (sym (bits h k) ∙ e));
-  in_problem = omega (arith, t.in_problem);
+  in_problem = omega (arith, constraint_count bs tab o);
 }
   where
+    few : i < most_constraints
+    few = omega (arith, (opened_sizes bs tab o).0)
+
     bits : (h k : ℕ) → bit (get_or after (mark_word h) 0) k ≡ (bit (get_or words (mark_word h) 0) k || (bit literals h && eqb k i))
-    bits h k = m.bits h k ∙ ap (λ (x : ℕ). bit x k || (bit literals h && eqb k i)) (get_or-set_other words i (mark_word h) w 0 (λ e. omega (arith, t.small)))
+    bits h k = m.bits h k ∙ ap (λ (x : ℕ). bit x k || (bit literals h && eqb k i)) (get_or-set_other words i (mark_word h) w 0 (λ e. omega (arith, few)))
 
     entry : (k : ℕ) → k < i + 1 → Dec (k ≡ i) → FilledAt bs after k
-    entry k l (yes e) = rw (e, m.front i t.small, get_or-set_same words i w 0 (omega (arith, f.long, t.small))) (λ h. b.bits h ∙ sym (entries_by u h), b.small)
-    entry k l (no e) = rw (m.front k (omega (arith, t.small)), get_or-set_other words i k w 0 e) (f.entries k (omega arith))
+    entry k l (yes e) = rw (e, m.front i few, get_or-set_same words i w 0 (omega (arith, f.long, few))) (λ h. b.bits h ∙ sym (entries_by u h), b.small)
+    entry k l (no e) = rw (m.front k (omega (arith, few)), get_or-set_other words i k w 0 e) (f.entries k (omega arith))
 
     need : (k : ℕ) → k < i + 1 → Dec (k ≡ i) → (x : ℕ) × NeedsOf (constraint_of bs k) x × ((h : ℕ) → bit x h ≡ true → bit (get_or after (mark_word h) 0) k ≡ true)
-    need k l (yes e) = (literals, rw e n, λ h q. bits h k ∙ or_r (bit (get_or words (mark_word h) 0) k) (and_i q (eq-eqb k i e)))
+    need k l (yes e) = (literals, rw (e, u.is) (n (map term es)), λ h q. bits h k ∙ or_r (bit (get_or words (mark_word h) 0) k) (and_i q (eq-eqb k i e)))
     need k l (no e) = let v = f.needed k (omega arith) in (v.0, v.1, λ h q. bits h k ∙ or_l (bit literals h && eqb k i) (v.2 h q))
 
     lower : (h k : ℕ) → (bit (get_or words (mark_word h) 0) k ≡ true) ⊎ ((bit literals h && eqb k i) ≡ true) → k < i + 1
     lower h k (inl e) = omega (arith, f.low h k e)
     lower h k (inr e) = omega (arith, eqb-true k i (and_r (bit literals h) (eqb k i) e))
 
-pub fill_end : {bs words : List ℕ} {i : ℕ} {t : Totals} {offsets witnesses : List ℕ} → Filled bs words i → Tabled bs t offsets witnesses → t.constraints ≤ i → WordsOf (constraints_of (read bs)) words
+pub fill_end : {bs words : List ℕ} {i : ℕ} → Filled bs words i → (tab : Table) → Opened bs tab → tab.constraints ≤ i → WordsOf (constraints_of (read bs)) words
 unfolding constraint_of
-fill_end {bs} {i = i} {t = t} {offsets} {witnesses} f d e =
-    let n = constraint_count bs (table_by t offsets witnesses) d.opened in
+fill_end {bs} {i = i} f tab o e =
+    let n = constraint_count bs tab o in
     record {
       long = f.long;
       entries = λ k l. (f.entries k (omega arith)).0;

@@ -13,28 +13,24 @@ use lib.Pow.{pow-lt}
 use types.Run.{OneOf, miss}
 use denote.Enum.Declared.{tag_of}
 use borrow.Author.Tests.{eq-eqb, eqb-true, eqb-false, ltb-true}
-use Rattle.calculus.specs.Limits.{most_sets, most_terms}
+use Rattle.calculus.specs.Limits.{most_sets}
 use Rattle.calculus.specs.Lists.{imp, all, any, bit}
 use Rattle.calculus.specs.Terms.{Term, SetVar, set_var}
-use Rattle.calculus.specs.Relations.{Rule, Relation, equal, union, disjoint, subset, intersection, unequal, Literal, Operand, operand_of, propagation, rows, negation_row}
+use Rattle.calculus.specs.Relations.{Rule, Relation, Negation, equal, union, disjoint, subset, intersection, unequal, Literal, Operand, operand_of, propagation, rows, negation_row}
 use Rattle.calculus.specs.Relations as R
-use Rattle.calculus.specs.Meaning.{Constraint, relation}
-use Rattle.calculus.specs.Invariants.{ConstraintIn}
+use Rattle.calculus.specs.Meaning.{Constraint, different, relation, negation}
 use Rattle.calculus.proofs.Bools.{clash, and_l, and_r, or_cases, or_l, or_r, imp_at, not_t}
 use Rattle.bits.proofs.Bits.{bit_of_or, bit_pow}
-use Rattle.problem.specs.Table.{Stands, constraint_of, kind_of}
-use Rattle.places.specs.Places.{span_of, propagation_span, split_span, InSpan, RuleOf, row_of, entries_of}
+use Rattle.problem.specs.Table.{kind_of}
+use Rattle.places.specs.Places.{propagation_span, split_span, InSpan, RuleOf, row_of}
 use Rattle.terms.specs.declared.SetVar.{SetVar as CodedSet}
-use Rattle.terms.specs.declared.Term.{Term as CodedTerm}
 use Rattle.constraints.specs.declared.Relation.{Relation as CodedRelation}
-use Rattle.constraints.specs.declared.Negation.{Negation as CodedNegation}
 use Rattle.constraints.specs.declared.Constraint.{Constraint as Coded}
 use Rattle.constraints.specs.declared.Constraint.TheVariants.{Member, Nonmember, Same, Different, Related, Negated, Listed}
 use Rattle.constraints.specs.declared.Entries.{Entries}
 use Rattle.constraints.specs.declared.Entries.TheVariants.{Written, Interval}
 use Rattle.constraints.specs.Decoded.{relation_of, decoded}
 use Rattle.constraints.specs.contracts.Constraint.{the_type}
-use Rattle.constraints.proofs.Decoding.{kind_here, in_range, list_set}
 use Rattle.rules.specs.declared.Row.{Row}
 use Rattle.rules.specs.declared.Split.{Split}
 use Rattle.rules.specs.Spans.{Spanned}
@@ -155,9 +151,10 @@ rule_12 intersection A B C j = (λ s e. omega (arith, s.0, s.1), λ s. omega (ar
 wider : {l : Constraint} {j w : ℕ} → RuleNeeds l j w → (v : ℕ) → ((k : ℕ) → bit w k ≡ true → bit v k ≡ true) → RuleNeeds l j v
 wider r v f = record { needing = λ k e. f k (r.needing k e); paired = λ e. f pair_mark (r.paired e) }
 
--- a word has what the propagation rules before rule j need
-pub record Before (l : Constraint) (j word : ℕ) : Type 0 where
+-- a word has what the propagation rules before rule j need, and they end at end
+pub record Before (l : Constraint) (j end word : ℕ) : Type 0 where
   pub begun : (propagation_span l).0 ≤ j
+  pub ends : end ≡ (propagation_span l).1
   pub rules : (m : ℕ) → InSpan (propagation_span l) m → m < j → RuleNeeds l m word
   pub small : word < 2 ^ rest_mark
 
@@ -179,83 +176,56 @@ nothing_needed w h f g s = record { rules = λ j r. record { needing = λ k z. c
 unsplit : {P : Type 0} (j : ℕ) → InSpan (0, 0) j → P
 unsplit j v = absurd (omega (arith, v.1))
 
--- constraint i as it is decoded
-module _ {bs : List ℕ} {i at : ℕ} (l : Coded) (d : Stands bs i at × (constraint_of bs i ≡ decoded (entries_of (constraint_of bs i)) l)) where
-  abbrev own : Constraint
-  own = constraint_of bs i
+-- a relation of sets that are in range
+module _ (k : CodedRelation) (A B C : CodedSet) where
+  abbrev related : Constraint
+  related = relation (relation_of k) (set_var A.0) (set_var B.0) (set_var C.0)
 
-  matched : {m : Coded} → l ≡ m → own ≡ decoded (entries_of own) m
-  matched e = d.1 ∙ ap (decoded (entries_of own)) e
+  abbrev InRange : Type 0
+  InRange = (A.0 < most_sets) × (B.0 < most_sets) × (C.0 < most_sets)
 
-  pub range : {m : Coded} → l ≡ m → ConstraintIn most_terms most_sets (decoded (entries_of own) m)
-  range e = subst (ConstraintIn most_terms most_sets) (matched e) (in_range bs i at d.0)
+  -- before its first propagation rule nothing is needed
+  pub needs_start : {first end : ℕ} → Spanned false (kind_of related) first end → Before related first end 0
+  needs_start h = let q = h related refl in record { begun = omega (arith, q.0); ends = q.1; rules = λ m v g. absurd (omega (arith, q.0, v.0)); small = omega arith }
 
-  pub different_needs : {t u : CodedTerm} → l ≡ Different t u → {v w : ℕ} → v ≡ 2 ^ pair_mark → w ≡ 2 ^ rest_mark → NeedsOf own (bit_or v w)
-  different_needs e p q = rw (matched e, p, q) (record { rules = λ j r. record { needing = λ k z. absurd (false≢true z); paired = λ z. bit_left (2 ^ pair_mark) (2 ^ rest_mark) 16 (bit_own pair_mark) }; splits = unsplit; small = or_lt mark_count (2 ^ pair_mark) (2 ^ rest_mark) (omega arith) (omega arith) })
-
-  pub negated_needs : {k : CodedNegation} {A B C : CodedSet} {t : CodedTerm} → l ≡ Negated k A B C t → {w : ℕ} → w ≡ 2 ^ split_mark → NeedsOf own w
-  negated_needs e q = rw (matched e, q) (nothing_needed (2 ^ split_mark) (omega arith) (λ j k. refl) (λ j. refl) (λ j v. bit_own split_mark))
-
-  pub listed_low : {k : Entries} {A : CodedSet} → l ≡ Listed k A → A.0 < most_sets
-  listed_low e = list_set (entries_of own) e (range refl)
-
-  pub listed_needs : (k : Entries) {A : CodedSet} → l ≡ Listed k A → {v w x : ℕ} → v ≡ 2 ^ A.0 → w ≡ 2 ^ rest_mark → x ≡ 2 ^ split_mark → NeedsOf own (bit_or (bit_or v w) x)
-  listed_needs Written {A} e p q r = rw (matched e, p, q, r) (list_needs A.0 (range e).0 (λ j k. refl) (λ j. refl))
-  listed_needs (Interval t u) {A} e p q r = rw (matched e, p, q, r) (list_needs A.0 (range e).0 (λ j k. refl) (λ j. refl))
-
-  module _ {k : CodedRelation} {A B C : CodedSet} (e : l ≡ Related k A B C) where
-    abbrev related : Constraint
-    related = relation (relation_of k) (set_var A.0) (set_var B.0) (set_var C.0)
-
-    spans : (split : Bool) {first end : ℕ} → Spanned split (get_or bs at 0) first end → (first ≡ (span_of split related).0) × (end ≡ (span_of split related).1)
-    spans split h = h related (sym (kind_here bs i at d.0 ∙ ap kind_of (matched e)))
-
+  module _ {j end word : ℕ} (f : Before related j end word) where
     -- what `premises` is asked for
-    pub premises_asked : {first end j word : ℕ} → Spanned false (get_or bs at 0) first end → Before own j word → j < end → HasRow j A B × (C.0 < most_sets)
-    premises_asked {first} {end} {j} h f b =
-        let v : InSpan (propagation_span related) j = (rw (matched e) at f.begun, omega (arith, (spans false h).1)) in
+    pub premises_asked : InRange → j < end → HasRow j A B × (C.0 < most_sets)
+    premises_asked r b =
+        let v : InSpan (propagation_span related) j = (f.begun, omega (arith, f.ends)) in
         let t = row_of_relation (relation_of k) (set_var A.0) (set_var B.0) (set_var C.0) j (inl v) in
-        (record { low = t.low; high = t.high; no_negation = t.no_seven; no_split = (rule_12 (relation_of k) (set_var A.0) (set_var B.0) (set_var C.0) j).0 v; first_set = (range e).0; second_set = (range e).1 }, (range e).2)
+        (record { low = t.low; high = t.high; no_negation = t.no_seven; no_split = (rule_12 (relation_of k) (set_var A.0) (set_var B.0) (set_var C.0) j).0 v; first_set = r.0; second_set = r.1 }, r.2)
 
-    pub needs_start : {first end : ℕ} → Spanned false (get_or bs at 0) first end → Before own first 0
-    needs_start h = let q = spans false h in rw (matched e) (record { begun = omega (arith, q.0); rules = λ m v g. absurd (omega (arith, q.0, v.0)); small = omega arith })
-
-    pub needs_next : {j word w : ℕ} → Before own j word → Premised A.0 B.0 C.0 j w → Before own (j + 1) (bit_or word w)
-    needs_next {j} {word} {w} f g = rw (matched e) (record { begun = omega (arith, p.begun); rules = λ m v h. go m v h (ℕ_discrete m j); small = or_lt rest_mark word w f.small g.0 })
+    pub needs_next : {w : ℕ} → Premised A.0 B.0 C.0 j w → Before related (j + 1) end (bit_or word w)
+    needs_next {w} g = record { begun = omega (arith, f.begun); ends = f.ends; rules = λ m v h. go m v h (ℕ_discrete m j); small = or_lt rest_mark word w f.small g.0 }
       where
-        p : Before related j word
-        p = rw (matched e) at f
-
         go : (m : ℕ) → InSpan (propagation_span related) m → m < j + 1 → Dec (m ≡ j) → RuleNeeds related m (bit_or word w)
         go m v h (yes q) = wider (subst (λ (x : ℕ). RuleNeeds related x w) (sym q) (g.1 (relation_of k) (inl (subst (InSpan (propagation_span related)) q v)))) (bit_or word w) (λ x. bit_right word w x)
-        go m v h (no q) = wider (p.rules m v (omega arith)) (bit_or word w) (λ x. bit_left word w x)
+        go m v h (no q) = wider (f.rules m v (omega arith)) (bit_or word w) (λ x. bit_left word w x)
 
-    -- past the last propagation rule: without a split, and with one
-    module _ {first end j word from to : ℕ} (h : Spanned false (get_or bs at 0) first end) (over : end ≤ j) (f : Before own j word) (g : Spanned true (get_or bs at 0) from to) where
-      past : Before related j word
-      past = rw (matched e) at f
-
-      abbrev needs_with : (w : ℕ) → w < 2 ^ mark_count → ((x : ℕ) → bit word x ≡ true → bit w x ≡ true) → ((m : ℕ) → InSpan (split_span related) m → RuleNeeds related m w × (bit w split_mark ≡ true)) → NeedsOf own w
-      needs_with w s u z = rw (matched e) (record { rules = λ m r. go m r; splits = λ m v. (z m v).1; small = s })
+    -- past the last: without a split, and with one
+    module _ {from to : ℕ} (over : end ≤ j) (g : Spanned true (kind_of related) from to) where
+      needs_with : (w : ℕ) → w < 2 ^ mark_count → ((x : ℕ) → bit word x ≡ true → bit w x ≡ true) → ((m : ℕ) → InSpan (split_span related) m → RuleNeeds related m w × (bit w split_mark ≡ true)) → NeedsOf related w
+      needs_with w s u z = record { rules = λ m r. go m r; splits = λ m v. (z m v).1; small = s }
         where
           go : (m : ℕ) → RuleOf related m → RuleNeeds related m w
-          go m (inl v) = wider (past.rules m v (omega (arith, v.1, (spans false h).1))) w u
+          go m (inl v) = wider (f.rules m v (omega (arith, v.1, f.ends))) w u
           go m (inr v) = (z m v).0
 
-      pub no_split : to ≤ from → NeedsOf own word
-      no_split n = let q = spans true g in needs_with word (omega (arith, f.small)) (λ x y. y) (λ m v. absurd (omega (arith, q.0, q.1, v.0, v.1)))
+      pub no_split : to ≤ from → NeedsOf related word
+      no_split n = let q = g related refl in needs_with word (omega (arith, f.small)) (λ x y. y) (λ m v. absurd (omega (arith, q.0, q.1, v.0, v.1)))
 
-      pub with_split : {x : Split} → x ≡ parted (operand_of A.0 B.0 C.0) (numbered 12) → {v w : ℕ} → v ≡ 2 ^ x.0.0 → w ≡ 2 ^ split_mark → NeedsOf own (bit_or (bit_or word v) w)
-      with_split {x} p {v} {w} q o = needs_with all (or_lt mark_count (bit_or word v) w (or_lt mark_count word v (omega (arith, f.small)) (rw c (omega (arith, pow_small C.0 (omega (arith, (range e).2)))))) (rw o (omega arith))) (λ y z. bit_left (bit_or word v) w y (bit_left word v y z)) (λ m s. (there m s, bit_right (bit_or word v) w 18 (rw o (bit_own split_mark))))
+      pub with_split : InRange → {x : Split} → x ≡ parted (operand_of A.0 B.0 C.0) (numbered 12) → {v w : ℕ} → v ≡ 2 ^ x.0.0 → w ≡ 2 ^ split_mark → NeedsOf related (bit_or (bit_or word v) w)
+      with_split r {x} p {v} {w} q o = needs_with all (or_lt mark_count (bit_or word v) w (or_lt mark_count word v (omega (arith, f.small)) (rw own (omega (arith, pow_small C.0 (omega (arith, r.2)))))) (rw o (omega arith))) (λ y z. bit_left (bit_or word v) w y (bit_left word v y z)) (λ m s. (there m s, bit_right (bit_or word v) w 18 (rw o (bit_own split_mark))))
         where
           all : ℕ
           all = bit_or (bit_or word v) w
 
-          c : v ≡ 2 ^ C.0
-          c = q ∙ ap (λ (y : Split). 2 ^ y.0.0) p
+          own : v ≡ 2 ^ C.0
+          own = q ∙ ap (λ (y : Split). 2 ^ y.0.0) p
 
           set : bit all C.0 ≡ true
-          set = bit_left (bit_or word v) w C.0 (bit_right word v C.0 (rw c (bit_own C.0)))
+          set = bit_left (bit_or word v) w C.0 (bit_right word v C.0 (rw own (bit_own C.0)))
 
           there : (m : ℕ) → InSpan (split_span related) m → RuleNeeds related m all
           there m s =
@@ -263,15 +233,22 @@ module _ {bs : List ℕ} {i at : ℕ} (l : Coded) (d : Stands bs i at × (constr
               let r : row_of (relation_of k) 12 ≡ numbered 12 = rw z at (row_of_relation (relation_of k) (set_var A.0) (set_var B.0) (set_var C.0) m (inr s)).is in
               rw z (by_row (relation_of k) A.0 B.0 C.0 12 all r set set (λ y. absurd (false≢true y)))
 
-  -- any other constraint has no split, and no rule that needs a literal
-  pub others_need : OneOf (0 ∷ 1 ∷ 2 ∷ []) (tag_of the_type l) → NeedsOf own 0
-  others_need o = subst (λ (x : Constraint). NeedsOf x 0) (sym d.1) (go l o (entries_of own))
-    where
-      go : (m : Coded) → OneOf (0 ∷ 1 ∷ 2 ∷ []) (tag_of the_type m) → (es : List Term) → NeedsOf (decoded es m) 0
-      go (Member t A) o es = nothing_needed 0 (omega arith) (λ j k. refl) (λ j. refl) unsplit
-      go (Nonmember t A) o es = nothing_needed 0 (omega arith) (λ j k. refl) (λ j. refl) unsplit
-      go (Same t u) o es = nothing_needed 0 (omega arith) (λ j k. refl) (λ j. refl) unsplit
-      go (Different t u) o es = absurd (miss (0 ∷ 1 ∷ 2 ∷ []) 3 tt o)
-      go (Related k A B C) o es = absurd (miss (0 ∷ 1 ∷ 2 ∷ []) 4 tt o)
-      go (Negated k A B C w) o es = absurd (miss (0 ∷ 1 ∷ 2 ∷ []) 5 tt o)
-      go (Listed k A) o es = absurd (miss (0 ∷ 1 ∷ 2 ∷ []) 6 tt o)
+pub different_needs : {t u : Term} {v w : ℕ} → v ≡ 2 ^ pair_mark → w ≡ 2 ^ rest_mark → NeedsOf (different t u) (bit_or v w)
+different_needs p q = rw (p, q) (record { rules = λ j r. record { needing = λ k z. absurd (false≢true z); paired = λ z. bit_left (2 ^ pair_mark) (2 ^ rest_mark) 16 (bit_own pair_mark) }; splits = unsplit; small = or_lt mark_count (2 ^ pair_mark) (2 ^ rest_mark) (omega arith) (omega arith) })
+
+pub negated_needs : {k : Negation} {A B C : SetVar} {t : Term} {w : ℕ} → w ≡ 2 ^ split_mark → NeedsOf (negation k A B C t) w
+negated_needs q = rw q (nothing_needed (2 ^ split_mark) (omega arith) (λ j k. refl) (λ j. refl) (λ j v. bit_own split_mark))
+
+pub listed_needs : (k : Entries) {A : CodedSet} → A.0 < most_sets → {v w x : ℕ} → v ≡ 2 ^ A.0 → w ≡ 2 ^ rest_mark → x ≡ 2 ^ split_mark → (es : List Term) → NeedsOf (decoded es (Listed k A)) (bit_or (bit_or v w) x)
+listed_needs Written {A} l p q r es = rw (p, q, r) (list_needs A.0 l (λ j k. refl) (λ j. refl))
+listed_needs (Interval t u) {A} l p q r es = rw (p, q, r) (list_needs A.0 l (λ j k. refl) (λ j. refl))
+
+-- any other constraint has no split, and no rule that needs a literal
+pub others_need : (l : Coded) → OneOf (0 ∷ 1 ∷ 2 ∷ []) (tag_of the_type l) → (es : List Term) → NeedsOf (decoded es l) 0
+others_need (Member t A) o es = nothing_needed 0 (omega arith) (λ j k. refl) (λ j. refl) unsplit
+others_need (Nonmember t A) o es = nothing_needed 0 (omega arith) (λ j k. refl) (λ j. refl) unsplit
+others_need (Same t u) o es = nothing_needed 0 (omega arith) (λ j k. refl) (λ j. refl) unsplit
+others_need (Different t u) o es = absurd (miss (0 ∷ 1 ∷ 2 ∷ []) 3 tt o)
+others_need (Related k A B C) o es = absurd (miss (0 ∷ 1 ∷ 2 ∷ []) 4 tt o)
+others_need (Negated k A B C w) o es = absurd (miss (0 ∷ 1 ∷ 2 ∷ []) 5 tt o)
+others_need (Listed k A) o es = absurd (miss (0 ∷ 1 ∷ 2 ∷ []) 6 tt o)

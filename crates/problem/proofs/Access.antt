@@ -1,5 +1,5 @@
 -- The laws of what is read through the table of an accepted problem. Assumes nothing.
-use mathlib.Core.Path.{◌≡◌, refl, sym, ap, ap₂, ◌∙◌, subst}
+use mathlib.Core.Path.{◌≡◌, refl, sym, ap, ◌∙◌, subst}
 use mathlib.Core.List.{List, [], ◌∷◌, ◌++◌, map, append-nil, append_assoc}
 use Prim.Native.Nat.{ℕ, zero, suc, ◌+◌, ◌*◌, ◌-◌, ◌<◌, ◌≤◌}
 use native.Mathlib.Omega.{arith}
@@ -8,6 +8,7 @@ use native.Mathlib.Nat.{le_of_suc-le-suc}
 use lib.ListN.{length, get_or, take, drop, length-append, length-drop, length-map, get_or-append, get_or-eq_default}
 use lib.Seq.{drop_at, take_at, drop-drop, drop-append_seam, get_or-drop}
 use lib.IntN.{ℤ, pos}
+use Rattle.std.specs.Prelude.{Option, Some, None}
 use Rattle.calculus.specs.Limits.{most_bytes, most_sets, most_constraints, most_terms}
 use Rattle.calculus.specs.Lists.{gather}
 use Rattle.calculus.specs.Terms.{Term, SetVar, term, set_var}
@@ -20,14 +21,14 @@ use Rattle.calculus.proofs.Words.{words_length}
 use Rattle.calculus.proofs.Parsers.{one, counted, answered, then, at_given}
 use Rattle.calculus.proofs.Sections.{First}
 use Rattle.calculus.proofs.ReadValid.{first_question, read_first, read_valid}
-use Rattle.calculus.proofs.Refuses.{refuses}
 use Rattle.calculus.proofs.Sequences.{term_index}
-use Rattle.problem.specs.declared.Table.{Table}
+use Rattle.problem.specs.declared.table.Table.{Table}
+use Rattle.problem.specs.declared.table.Line.{Line}
 use Rattle.slices.specs.Bytes.{places_from}
 use Rattle.slices.proofs.Parts.{filled_at}
 use Rattle.questions.specs.Questions.{constants_of, constant_at}
-use Rattle.problem.specs.Sections.{starts_from, witnesses_from}
-use Rattle.problem.specs.Table.{header_length, problem_table, table_is, table_of, Opened, Stands, values_of, constant_of, constraints_of, no_constraint, constraint_of, kind_of, witnesses_of, witness_of}
+use Rattle.problem.specs.Sections.{witnesses_from, no_line, lines_from}
+use Rattle.problem.specs.Table.{header_length, problem_table, table_of, line_of, Opened, Stands, values_of, constant_of, constraints_of, no_constraint, constraint_of, kind_of, witnesses_of, witness_of}
 use Rattle.questions.proofs.Constants.{constant_read_at}
 
 -- ---- an opened table is that of a problem that was read
@@ -37,16 +38,19 @@ pub record Read (bs : List ℕ) (tab : Table) : Type 0 where
   pub reads : read bs ≡ parsed prob
   pub shows : tab ≡ problem_table prob
 
+abbrev given_table : Option Table → Table → Table
+given_table (Some t) d = t
+given_table None d = d
+
 pub opened : (bs : List ℕ) (tab : Table) → Opened bs tab → Read bs tab
-unfolding table_of table_is
+unfolding table_of
 opened bs tab o = go (read bs) refl
   where
     go : (m : Parsed Problem) → read bs ≡ m → Read bs tab
-    go (parsed prob) q = record { prob = prob; reads = q; shows = rw q at o.made }
+    go (parsed prob) q = record { prob = prob; reads = q; shows = sym (ap (λ (x : Option Table). given_table x tab) (sym (ap table_of q) ∙ o)) }
     go (refused n) q =
-        let r = rw q at o.made in
-        let z : tab.refusal ≡ n = ap (λ (t : Table). t.refusal) r in
-        absurd (omega (arith, ((refuses bs).1 n q).0, o.accepted))
+        let z : ◌≡◌ {A = ℕ} 0 1 = ap (λ (x : Option Table). elim x [ None ↦ 0 | Some t ↦ 1 ]) (sym (ap table_of q) ∙ o) in
+        absurd (omega arith)
 
 -- ---- where the constraints stand
 
@@ -83,22 +87,21 @@ constant_read bs tab t o l =
 -- ---- where each constraint stands
 
 -- constraint i stands where its offset says
-stands_at : (bs : List ℕ) (ls : List Constraint) (at i : ℕ) → drop at bs ≡ gather encode_constraint ls → i < length ls
-    → drop (get_or (starts_from at ls) i 0) bs ≡ encode_constraint (get_or ls i no_constraint) ++ gather encode_constraint (drop (suc i) ls)
-unfolding places_from
-stands_at bs [] at i e l = absurd (omega arith)
-stands_at bs (x ∷ ls) at zero e l = e
-stands_at bs (x ∷ ls) at (suc i) e l =
-    stands_at bs ls (at + length (encode_constraint x)) i
+stands_at : (bs : List ℕ) (ls : List Constraint) (at w i : ℕ) → drop at bs ≡ gather encode_constraint ls → i < length ls
+    → drop ((get_or (lines_from at w ls) i no_line).at) bs ≡ encode_constraint (get_or ls i no_constraint) ++ gather encode_constraint (drop (suc i) ls)
+stands_at bs [] at w i e l = absurd (omega arith)
+stands_at bs (x ∷ ls) at w zero e l = e
+stands_at bs (x ∷ ls) at w (suc i) e l =
+    stands_at bs ls (at + length (encode_constraint x)) (w + uses x) i
     (sym (drop-drop (length (encode_constraint x)) at bs) ∙ ap (drop (length (encode_constraint x))) e ∙ drop-append_seam (encode_constraint x) (gather encode_constraint ls))
     (le_of_suc-le-suc l)
 
 pub record Placed (bs : List ℕ) (tab : Table) (i : ℕ) : Type 0 where
   pub small : i < most_constraints
   pub short : length bs ≤ most_bytes
-  pub low : get_or tab.offsets i 0 < length bs
+  pub low : (line_of tab i).at < length bs
   pub rest : List ℕ
-  pub here : drop (get_or tab.offsets i 0) bs ≡ encode_constraint (constraint_of bs i) ++ rest
+  pub here : drop ((line_of tab i).at) bs ≡ encode_constraint (constraint_of bs i) ++ rest
 
 -- ---- a constraint's bytes: its kind, and then its operands
 
@@ -125,22 +128,25 @@ placed bs tab i o l =
     let v = read_valid bs prob r.reads in
     let n : tab.constraints ≡ length prob.constraints = ap (λ (t : Table). t.constraints) r.shows in
     let li : i < length prob.constraints = omega arith in
-    let s : List ℕ = starts_from (header_length prob) prob.constraints in
-    let a : get_or tab.offsets i 0 ≡ get_or s i 0 = ap (λ (t : Table). get_or t.offsets i 0) r.shows ∙ filled_at most_constraints s i in
+    let s : List Line = lines_from (header_length prob) (nameable prob) prob.constraints in
+    let a : (line_of tab i).at ≡ (get_or s i no_line).at = ap (λ (t : Table). (line_of t i).at) r.shows ∙ ap (λ (x : Line). x.at) (filled_at no_line most_constraints s i) in
     let c : constraint_of bs i ≡ get_or prob.constraints i no_constraint = rw r.reads in
     let more : List ℕ = gather encode_constraint (drop (suc i) prob.constraints) in
-    let h : drop (get_or tab.offsets i 0) bs ≡ encode_constraint (constraint_of bs i) ++ more =
-    ap (λ (x : ℕ). drop x bs) a ∙ stands_at bs prob.constraints (header_length prob) i (header_ends prob bs (read_first bs prob q.1)) li ∙ ap (λ (x : Constraint). encode_constraint x ++ more) (sym c) in
-    let d : length bs - get_or tab.offsets i 0 ≡ length (encode_constraint (constraint_of bs i)) + length more = sym (length-drop (get_or tab.offsets i 0) bs) ∙ ap length h ∙ length-append (encode_constraint (constraint_of bs i)) more in
+    let h : drop ((line_of tab i).at) bs ≡ encode_constraint (constraint_of bs i) ++ more =
+    ap (λ (x : ℕ). drop x bs) a ∙ stands_at bs prob.constraints (header_length prob) (nameable prob) i (header_ends prob bs (read_first bs prob q.1)) li ∙ ap (λ (x : Constraint). encode_constraint x ++ more) (sym c) in
+    let d : length bs - (line_of tab i).at ≡ length (encode_constraint (constraint_of bs i)) + length more = sym (length-drop ((line_of tab i).at) bs) ∙ ap length h ∙ length-append (encode_constraint (constraint_of bs i)) more in
     let f = kind_first (constraint_of bs i) in
     let p : length (encode_constraint (constraint_of bs i)) ≡ suc (length f.0) = ap length f.1 in
     record { small = omega (arith, v.few_constraints); short = q.0; low = omega arith; rest = more; here = h }
+
+pub line_low : (bs : List ℕ) (tab : Table) (i : ℕ) → Opened bs tab → i < tab.constraints → (line_of tab i).at < length bs
+line_low bs tab i o l = (placed bs tab i o l).low
 
 -- ---- what is read
 
 module _ (bs : List ℕ) (tab : Table) (i : ℕ) (h : Placed bs tab i) where
   abbrev at : ℕ
-  at = get_or tab.offsets i 0
+  at = (line_of tab i).at
 
   abbrev this : Constraint
   this = constraint_of bs i
@@ -173,10 +179,8 @@ list_is (negation unequal A B C w) e = absurd (omega arith)
 list_is (exactly A es) e = (A, es, refl)
 list_is (interval A i j es) e = absurd (omega arith)
 
-module _ (bs : List ℕ) (tab : Table) (i : ℕ) (h : Placed bs tab i) (k : kind_of (constraint_of bs i) ≡ 11) where
-  abbrev from : ℕ
-  from = get_or tab.offsets i 0
-
+-- line are the bytes from its kind byte on
+module _ (bs : List ℕ) (tab : Table) (i : ℕ) (h : Placed bs tab i) (k : kind_of (constraint_of bs i) ≡ 11) (line : List ℕ) (from : line ≡ drop ((line_of tab i).at) bs) where
   abbrev A : SetVar
   A = (list_is (constraint_of bs i) k).0
 
@@ -187,46 +191,45 @@ module _ (bs : List ℕ) (tab : Table) (i : ℕ) (h : Placed bs tab i) (k : kind
   es = map (λ (e : Term). e.index) list
 
   -- the bytes after a list's set are its count and its entries
-  from_bytes : drop from bs ≡ 11 ∷ A.index ∷ length list ∷ (es ++ h.rest)
-  from_bytes = h.here ∙ ap (λ (l : Constraint). encode_constraint l ++ h.rest) (list_is (constraint_of bs i) k).2
+  line_is : line ≡ 11 ∷ A.index ∷ length list ∷ (es ++ h.rest)
+  line_is = from ∙ h.here ∙ ap (λ (l : Constraint). encode_constraint l ++ h.rest) (list_is (constraint_of bs i) k).2
 
-  list_count : get_or bs (from + 2) 0 ≡ length list
-  list_count = sym (get_or-drop from bs 2 0) ∙ ap (λ (xs : List ℕ). get_or xs 2 0) from_bytes
+  pub list_fits : (2 < length line) × (3 + get_or line 2 0 ≤ length line)
+  list_fits = rw line_is (omega (arith, length-append es h.rest, length-map list (λ (e : Term). e.index)))
 
-  pub list_fits : (from + 2 < length bs) × (from + 3 + get_or bs (from + 2) 0 ≤ length bs)
-  list_fits =
-      let d : length bs - from ≡ 3 + length (es ++ h.rest) = sym (length-drop from bs) ∙ ap length from_bytes ∙ omega arith in
-      omega (arith, length-append es h.rest, list_count, length-map list (λ (e : Term). e.index))
+  pub list_read : constraint_of bs i ≡ exactly (set_var (get_or bs ((line_of tab i).at + 1) 0)) (map term (take (3 + get_or line 2 0 - 3) (drop 3 line)))
+  list_read =
+      let n : 3 + length list - 3 ≡ length list = omega arith in
+      let s : get_or bs ((line_of tab i).at + 1) 0 ≡ A.index = sym (get_or-drop ((line_of tab i).at) bs 1 0) ∙ ap (λ (xs : List ℕ). get_or xs 1 0) (sym from ∙ line_is) in
+      rw (s, line_is, n, take_at es h.rest (length list) (length-map list (λ (e : Term). e.index)), term_index list) (list_is (constraint_of bs i) k).2
 
-  pub list_read : (r : List ℕ) → r ≡ take (from + 3 + get_or bs (from + 2) 0 - (from + 3)) (drop (from + 3) bs) → constraint_of bs i ≡ exactly (set_var (get_or bs (from + 1) 0)) (map term r)
-  list_read r e =
-      let n : from + 3 + get_or bs (from + 2) 0 - (from + 3) ≡ length list = omega (arith, list_count) in
-      let d : drop (from + 3) bs ≡ es ++ h.rest = sym (drop-drop 3 from bs) ∙ ap (drop 3) from_bytes in
-      let m : length es ≡ length list = length-map list (λ (e : Term). e.index) in
-      let q : map term r ≡ list = ap (map term) (e ∙ ap₂ (λ (x : ℕ) (y : List ℕ). take x y) n d ∙ take_at es h.rest (length list) m) ∙ term_index list in
-      let s : get_or bs (from + 1) 0 ≡ A.index = sym (get_or-drop from bs 1 0) ∙ ap (λ (xs : List ℕ). get_or xs 1 0) from_bytes in
-      (list_is (constraint_of bs i) k).2 ∙ ap₂ (λ (x : ℕ) (l : List Term). exactly (set_var x) l) (sym s) (sym q)
+-- the same of an opened table's constraint
+module _ (bs : List ℕ) (tab : Table) (i : ℕ) (line : List ℕ) (o : Opened bs tab) (there : i < tab.constraints) (from : line ≡ drop ((line_of tab i).at) bs) (k : kind_of (constraint_of bs i) ≡ 11) where
+  pub list_counted : 2 < length line
+  list_counted = (list_fits bs tab i (placed bs tab i o there) k line from).0
+
+  pub list_there : 3 + get_or line 2 0 ≤ length line
+  list_there = (list_fits bs tab i (placed bs tab i o there) k line from).1
 
 -- the same of a constraint that stands at an offset
-module _ (bs : List ℕ) (i at : ℕ) (s : Stands bs i at) where
-  pub place_of : Placed bs s.tab i
-  place_of = placed bs s.tab i s.opened s.there
-
-  module _ (k : kind_of (constraint_of bs i) ≡ 11) where
-    pub entries_fit : (at + 2 < length bs) × (at + 3 + get_or bs (at + 2) 0 ≤ length bs)
-    entries_fit = subst (λ (x : ℕ). (x + 2 < length bs) × (x + 3 + get_or bs (x + 2) 0 ≤ length bs)) (sym s.offset) (list_fits bs s.tab i place_of k)
-
-    pub entries_read : (r : List ℕ) → r ≡ take (at + 3 + get_or bs (at + 2) 0 - (at + 3)) (drop (at + 3) bs) → constraint_of bs i ≡ exactly (set_var (get_or bs (at + 1) 0)) (map term r)
-    entries_read = subst (λ (x : ℕ). (r : List ℕ) → r ≡ take (x + 3 + get_or bs (x + 2) 0 - (x + 3)) (drop (x + 3) bs) → constraint_of bs i ≡ exactly (set_var (get_or bs (x + 1) 0)) (map term r)) (sym s.offset) (list_read bs s.tab i place_of k)
+pub place_of : (bs : List ℕ) (i p : ℕ) (s : Stands bs i p) → Placed bs s.tab i
+place_of bs i p s = placed bs s.tab i s.opened s.there
 
 -- ---- the witnesses
 
-pub witness_read : (bs : List ℕ) (tab : Table) (i : ℕ) → Opened bs tab → i < most_constraints → term (get_or tab.witnesses i 0) ≡ witness_of bs i
+witness_line : (p w : ℕ) (ls : List Constraint) (i : ℕ) → (get_or (lines_from p w ls) i no_line).witness.0 ≡ get_or (witnesses_from w ls) i 0
+unfolding places_from
+witness_line p w [] i = refl
+witness_line p w (l ∷ ls) zero = refl
+witness_line p w (l ∷ ls) (suc i) = witness_line (p + length (encode_constraint l)) (w + uses l) ls i
+
+pub witness_read : (bs : List ℕ) (tab : Table) (i : ℕ) → Opened bs tab → i < most_constraints → term ((line_of tab i).witness.0) ≡ witness_of bs i
 unfolding problem_table witness_of witnesses_of
 witness_read bs tab i o l =
     let r = opened bs tab o in
-    let w : List ℕ = witnesses_from (nameable r.prob) r.prob.constraints in
-    rw r.reads (ap term (ap (λ (t : Table). get_or t.witnesses i 0) r.shows ∙ filled_at most_constraints w i))
+    let ls : List Constraint = r.prob.constraints in
+    let s : List Line = lines_from (header_length r.prob) (nameable r.prob) ls in
+    rw r.reads (ap term (ap (λ (t : Table). (line_of t i).witness.0) r.shows ∙ ap (λ (x : Line). x.witness.0) (filled_at no_line most_constraints s i) ∙ witness_line (header_length r.prob) (nameable r.prob) ls i))
 
 numbered_at : (ls : List Constraint) (w last i : ℕ) → Numbered w last ls → i < length ls → Tied (get_or (witnesses_from w ls) i 0) (get_or ls i no_constraint)
 unfolding places_from

@@ -1,171 +1,79 @@
--- The laws of a section. Assumes nothing.
-use mathlib.Core.Path.{◌≡◌, refl, sym, ap, ◌∙◌}
+-- The laws of a section and of what its function answers. Assumes nothing.
+use mathlib.Core.Path.{◌≡◌, refl, sym, ap}
 use mathlib.Core.Bool.{Bool, true, false, ◌&&◌}
-use mathlib.Core.List.{List}
-use Prim.Native.Nat.{ℕ, zero, suc, ◌+◌, ◌*◌, ◌-◌, ◌<◌, ◌≤◌}
+use mathlib.Core.List.{List, [], ◌∷◌, ◌++◌}
+use Prim.Native.Nat.{ℕ, ◌*◌, ◌<◌}
 use native.Mathlib.Omega.{arith}
-use native.Mathlib.Numerals.{add-one}
-use native.Mathlib.Decide.{dec_lt, dec_le}
-use lib.ListN.{length, get_or, take, drop, drop_of_length-le, length-drop}
-use lib.Seq.{drop-cons, drop-drop}
+use lib.ListN.{length, take, drop, take-append-drop, length-take}
 use lib.Dec.{leb}
-use borrow.Author.Tests.{le-leb, lt-leb}
+use borrow.Author.Tests.{leb-true, le-leb, lt-leb}
+use Rattle.std.specs.Prelude.{Ok, Err, Option, Some, None}
+use Rattle.std.specs.Option.{MatchOption, ok_or}
+use Rattle.std.specs.List.{IsSplitAt}
+use Rattle.std.specs.Borrow.{Bor}
+use Rattle.calculus.specs.Reading.{Parsed, parsed, refused, ◌>>=◌, ask, byte, bytes, letters}
 use Rattle.calculus.specs.Limits.{most_sets}
-use Rattle.calculus.specs.Reading.{Parsed, parsed, refused, ◌>>=◌, ask, byte, bytes}
-use Rattle.problem.specs.declared.sections.Section.{Section}
-use Rattle.problem.specs.Sections.{counted, section, refused_section, section_of}
+use Rattle.calculus.proofs.Parsers.{no_answer}
+use Rattle.questions.specs.declared.refusal.Refusal.{Refusal}
+use Rattle.questions.specs.declared.refusal.Refusal.TheVariants.{CutShort}
+use Rattle.questions.specs.Answers.{number_of}
+use Rattle.questions.proofs.Answers.{was_parsed, passed_on}
+use Rattle.problem.specs.Sections.{counted, section, letters_section, sets_section, SplitAs, Splits}
 
--- ---- bytes at a place
+abbrev pub Parts : Type 0
+Parts = Bor (List ℕ) × Bor (List ℕ)
 
-module _ (bs : List ℕ) (at : ℕ) where
-  pub byte_none : length bs ≤ at → byte (drop at bs) ≡ refused 2
-  unfolding byte
-  byte_none l = rw (drop_of_length-le bs l)
+-- the bytes that follow a count, where as many are there
+pub parts_counted : (size n : ℕ) (rest : List ℕ) (o : Option Parts) → MatchOption o (length rest < size * n) (λ p. IsSplitAt rest (size * n) p.0.now p.1.now) → Splits size (counted size (n ∷ rest)) (ok_or o CutShort)
+unfolding counted ◌>>=◌ byte bytes
+parts_counted size n rest None h = rw (lt-leb (size * n) (length rest) h) refl
+parts_counted size n rest (Some p) h = rw (le-leb (size * n) (length rest) h.0) (h.3, h.1, h.2)
 
-  pub byte_at : at < length bs → byte (drop at bs) ≡ parsed (get_or bs at 0, drop (at + 1) bs)
-  unfolding byte
-  byte_at l = rw (drop-cons bs at 0 l, add-one at)
+-- what a section that was read is: its count, its bytes and what follows
+pub section_is : (size number : ℕ) (test : ℕ → List ℕ → Bool) (bs : List ℕ) (a : ℕ × List ℕ × List ℕ) → section size number test bs ≡ parsed a
+    → (bs ≡ a.0 ∷ (a.1 ++ a.2)) × (length a.1 ≡ size * a.0) × (test a.0 a.1 ≡ true)
+unfolding section counted byte bytes ask ◌>>=◌
+section_is size number test [] a e = no_answer e
+section_is size number test (n ∷ rest) a e = go (leb (size * n) (length rest)) refl
+  where
+    go : (t : Bool) → leb (size * n) (length rest) ≡ t → (n ∷ rest ≡ a.0 ∷ (a.1 ++ a.2)) × (length a.1 ≡ size * a.0) × (test a.0 a.1 ≡ true)
+    go false q = no_answer (rw q at e)
+    go true q = passed (test n (take (size * n) rest)) refl
+      where
+        passed : (u : Bool) → test n (take (size * n) rest) ≡ u → (n ∷ rest ≡ a.0 ∷ (a.1 ++ a.2)) × (length a.1 ≡ size * a.0) × (test a.0 a.1 ≡ true)
+        passed false u = no_answer (rw (q, u) at e)
+        passed true u =
+            let w : (n, take (size * n) rest, drop (size * n) rest) ≡ a = cc (rw (q, u) at e) in
+            rw (← w) (ap (λ (x : List ℕ). n ∷ x) (sym (take-append-drop (size * n) rest)), omega (arith, length-take (size * n) rest, leb-true (size * n) (length rest) q), u)
 
-  pub bytes_none : (n : ℕ) → at ≤ length bs → length bs < at + n → bytes n (drop at bs) ≡ refused 2
-  unfolding bytes
-  bytes_none n l h = rw (lt-leb n (length (drop at bs)) (omega (arith, length-drop at bs)))
+-- ---- a part that was found, and then a question
 
-  pub bytes_of_value : (n : ℕ) → at + n ≤ length bs → bytes n (drop at bs) ≡ parsed (take n (drop at bs), drop (at + n) bs)
-  unfolding bytes
-  bytes_of_value n l = rw (le-leb n (length (drop at bs)) (omega (arith, length-drop at bs)), drop-drop n at bs)
+module _ (size number : ℕ) (test : ℕ → List ℕ → Bool) (p : Parsed (ℕ × List ℕ × List ℕ)) where
+  abbrev pub asked : Parsed (ℕ × List ℕ × List ℕ)
+  asked = p >>= λ a. ask number (test a.0 a.1) >>= λ _. parsed a
 
--- ---- a count and its bytes
+  pub asked_none : (q : Refusal) → Splits size p (Err q) → Splits size asked (Err q)
+  asked_none q h = passed_on (SplitAs size) (SplitAs size) p _ q h
 
-module _ (size : ℕ) (bs : List ℕ) (at : ℕ) where
-  abbrev n : ℕ
-  n = get_or bs at 0
+  module _ (r : Parts) (h : Splits size p (Ok r)) where
+    pub asked_yes : ((n : ℕ) → length r.0.now ≡ size * n → test n r.0.now ≡ true) → Splits size asked (Ok r)
+    unfolding ◌>>=◌ ask
+    asked_yes t = let w = was_parsed (SplitAs size) p r h in rw (w.1, ← w.2.1, t w.0.0 w.2.0) w.2
 
-  abbrev end : ℕ
-  end = at + 1 + size * n
+    pub asked_no : (q : Refusal) → number_of q ≡ number → ((n : ℕ) → length r.0.now ≡ size * n → test n r.0.now ≡ false) → Splits size asked (Err q)
+    unfolding ◌>>=◌ ask
+    asked_no q e t = let w = was_parsed (SplitAs size) p r h in rw (w.1, ← w.2.1, t w.0.0 w.2.0) e
 
-  counted_none : length bs ≤ at → counted size (drop at bs) ≡ refused 2
-  unfolding counted ◌>>=◌
-  counted_none l = rw (byte_none bs at l)
-
-  counted_short : at < length bs → length bs < end → counted size (drop at bs) ≡ refused 2
-  unfolding counted ◌>>=◌
-  counted_short l h = rw (byte_at bs at l, bytes_none bs (at + 1) (size * n) (omega arith) h)
-
-  counted_at : end ≤ length bs → counted size (drop at bs) ≡ parsed (n, take (size * n) (drop (at + 1) bs), drop end bs)
-  unfolding counted ◌>>=◌
-  counted_at l = rw (byte_at bs at (omega arith), bytes_of_value bs (at + 1) (size * n) l)
-
-  -- the three answers of `section_at`
-  pub no_count : (s : Section) → s ≡ refused_section 2 → length bs ≤ at → s ≡ section_of (length bs) (counted size (drop at bs))
-  unfolding section_of
-  no_count s e l = rw (counted_none l) e
-
-  pub no_bytes : (s : Section) → s ≡ refused_section 2 → at < length bs → length bs < end → s ≡ section_of (length bs) (counted size (drop at bs))
-  unfolding section_of
-  no_bytes s e l h = rw (counted_short l h) e
-
-  pub all_there : end ≤ length bs → ◌≡◌ {A = Section} (record { refusal = 0; count = n; next = end }) (section_of (length bs) (counted size (drop at bs)))
-  unfolding section_of
-  all_there l =
-      let e : end ≡ length bs - length (drop end bs) = omega (arith, length-drop end bs) in
-      rw (counted_at l) (ap (λ (x : ℕ). record { refusal = 0; count = n; next = x }) e)
-
--- where a section stands and ends
-pub record SectionStands (size : ℕ) (bs : List ℕ) (at : ℕ) (s : Section) : Type 0 where
-  pub count : s.count ≡ get_or bs at 0
-  pub next : s.next ≡ at + 1 + size * s.count
-  pub fits : s.next ≤ length bs
-
-module _ (size : ℕ) (bs : List ℕ) (at : ℕ) (s : Section) where
-  abbrev body : List ℕ
-  body = take (size * s.count) (drop (at + 1) bs)
-
-  -- what a section's count tells
-  pub found : s ≡ section_of (length bs) (counted size (drop at bs)) → s.refusal ≡ 0
-      → SectionStands size bs at s × (counted size (drop at bs) ≡ parsed (s.count, body, drop s.next bs))
-  unfolding section_of
-  found e z = go (dec_lt at (length bs)) (dec_le (end size bs at) (length bs))
-    where
-      Goal : Type 0
-      Goal = SectionStands size bs at s × (counted size (drop at bs) ≡ parsed (s.count, body, drop s.next bs))
-
-      go : Dec (at < length bs) → Dec (end size bs at ≤ length bs) → SectionStands size bs at s × (counted size (drop at bs) ≡ parsed (s.count, body, drop s.next bs))
-      go (yes l) (yes h) =
-          let q = e ∙ sym (all_there size bs at h) in
-          let a : s.count ≡ get_or bs at 0 = ap (λ (x : Section). x.count) q in
-          let b : s.next ≡ end size bs at = ap (λ (x : Section). x.next) q in
-          (record { count = a; next = rw a b; fits = rw b h }, rw (a, b) (counted_at size bs at h))
-      go (yes l) (no h) = let q = rw (counted_short size bs at l (omega arith)) at e in let w : s.refusal ≡ 2 = ap (λ (x : Section). x.refusal) q in absurd (omega arith)
-      go (no l) h = let q = rw (counted_none size bs at (omega arith)) at e in let w : s.refusal ≡ 2 = ap (λ (x : Section). x.refusal) q in absurd (omega arith)
-
--- ---- a section with its question
-
-module _ (size number : ℕ) (test : ℕ → List ℕ → Bool) (bs : List ℕ) (at : ℕ) (s : Section) where
-  abbrev this : Parsed (ℕ × List ℕ × List ℕ)
-  this = section size number test (drop at bs)
-
-  pub passes_on : s ≡ section_of (length bs) (counted size (drop at bs)) → (s.refusal ≡ 0 → ⊥) → s ≡ section_of (length bs) this
-  unfolding section section_of ◌>>=◌
-  passes_on e z = go (counted size (drop at bs)) refl
-    where
-      go : (m : Parsed (ℕ × List ℕ × List ℕ)) → counted size (drop at bs) ≡ m → s ≡ section_of (length bs) this
-      go (parsed a) q = let r = rw q at e in absurd (z (ap (λ (x : Section). x.refusal) r))
-      go (refused n) q = rw q (rw q at e)
-
-  module _ (e : s ≡ section_of (length bs) (counted size (drop at bs))) (z : s.refusal ≡ 0) where
-    pub answers_yes : test s.count (body size bs at s) ≡ true → s ≡ section_of (length bs) this
-    unfolding section ask ◌>>=◌
-    answers_yes t = rw ((found size bs at s e z).1, t) (rw (found size bs at s e z).1 at e)
-
-    pub answers_no : (r : Section) → r ≡ refused_section number → test s.count (body size bs at s) ≡ false → r ≡ section_of (length bs) this
-    unfolding section ask ◌>>=◌ section_of
-    answers_no r q t = rw ((found size bs at s e z).1, t) q
-
-  -- what its answer tells
-  pub section_stops : s ≡ section_of (length bs) this → (s.refusal ≡ 0 → ⊥) → this ≡ refused s.refusal
-  unfolding section_of
-  section_stops e z = go this refl
-    where
-      go : (m : Parsed (ℕ × List ℕ × List ℕ)) → this ≡ m → this ≡ refused s.refusal
-      go (parsed a) q = let r = rw q at e in absurd (z (ap (λ (x : Section). x.refusal) r))
-      go (refused n) q = let r = rw q at e in q ∙ ap refused (sym (ap (λ (x : Section). x.refusal) r))
-
-  pub section_goes : 0 < number → s ≡ section_of (length bs) this → s.refusal ≡ 0
-      → SectionStands size bs at s × (test s.count (body size bs at s) ≡ true) × (this ≡ parsed (s.count, body size bs at s, drop s.next bs))
-  unfolding section section_of ask ◌>>=◌
-  section_goes p e z = go (counted size (drop at bs)) refl
-    where
-      ask_it : (a : ℕ × List ℕ × List ℕ) → counted size (drop at bs) ≡ parsed a → (t : Bool) → test a.0 a.1 ≡ t
-          → SectionStands size bs at s × (test s.count (body size bs at s) ≡ true) × (this ≡ parsed (s.count, body size bs at s, drop s.next bs))
-      ask_it a q true t =
-          let e' : s ≡ section_of (length bs) (counted size (drop at bs)) = rw q (rw (q, t) at e) in
-          let f = found size bs at s e' z in
-          let j : parsed a ≡ parsed (s.count, body size bs at s, drop s.next bs) = sym q ∙ f.1 in
-          let k : a ≡ (s.count, body size bs at s, drop s.next bs) = cc in
-          (f.0, ap (λ (x : ℕ × List ℕ × List ℕ). test x.0 x.1) (sym k) ∙ t, rw (q, t) j)
-      ask_it a q false t = let r = rw (q, t) at e in let w : s.refusal ≡ number = ap (λ (x : Section). x.refusal) r in absurd (omega arith)
-
-      go : (m : Parsed (ℕ × List ℕ × List ℕ)) → counted size (drop at bs) ≡ m
-          → SectionStands size bs at s × (test s.count (body size bs at s) ≡ true) × (this ≡ parsed (s.count, body size bs at s, drop s.next bs))
-      go (parsed a) q = ask_it a q (test a.0 a.1) refl
-      go (refused n) q =
-          let r = rw q at e in
-          let w : s.refusal ≡ n = ap (λ (x : Section). x.refusal) r in
-          let f = found size bs at s (rw q r) z in
-          let j : ◌≡◌ {A = Parsed (ℕ × List ℕ × List ℕ)} (refused n) (parsed (s.count, body size bs at s, drop s.next bs)) = sym q ∙ f.1 in
-          let y : ◌≡◌ {A = ℕ} 0 1 = cc in
-          absurd (omega arith)
-
-pub few_bytes : (size n : ℕ) → size ≤ 2 → n < 256 → size * n < 512
-few_bytes zero n l h = omega arith
-few_bytes (suc zero) n l h = omega arith
-few_bytes (suc (suc zero)) n l h = omega arith
-few_bytes (suc (suc (suc m))) n l h = absurd (omega arith)
-
--- the part of the problem that has a section's names
-pub names_part : (bs : List ℕ) (at : ℕ) (s : Section) → SectionStands 1 bs at s → take (s.next - (at + 1)) (drop (at + 1) bs) ≡ body 1 bs at s
-names_part bs at s h = let e : s.next - (at + 1) ≡ 1 * s.count = omega (arith, h.next) in ap (λ (x : ℕ). take x (drop (at + 1) bs)) e
-
-pub too_many : (b : Bool) (n : ℕ) → most_sets < n → (b && leb n most_sets) ≡ false
-too_many true n l = lt-leb n most_sets l
-too_many false n l = refl
+-- the sets are asked for their letters and then for their number
+pub sets_asked : (bs : List ℕ) → sets_section bs ≡ asked 1 5 (λ n xs. leb n most_sets) (letters_section 5 65 90 bs)
+unfolding section ◌>>=◌ ask
+sets_asked bs = go (counted 1 bs)
+  where
+    go : (m : Parsed (ℕ × List ℕ × List ℕ)) → (m >>= λ a. ask 5 (letters 65 90 a.1 && leb a.0 most_sets) >>= λ _. parsed a)
+        ≡ asked 1 5 (λ n xs. leb n most_sets) (m >>= λ a. ask 5 (letters 65 90 a.1) >>= λ _. parsed a)
+    go (parsed a) = test (letters 65 90 a.1)
+      where
+        test : (t : Bool) → (ask 5 (t && leb a.0 most_sets) >>= λ _. parsed a) ≡ asked 1 5 (λ n xs. leb n most_sets) (ask 5 t >>= λ _. parsed a)
+        test true = refl
+        test false = refl
+    go (refused n) = refl

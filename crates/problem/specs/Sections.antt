@@ -1,13 +1,16 @@
 -- The sections of a problem, one by one: what each function answers. Assumes nothing: these are definitions.
-use Rattle.std.specs.Prelude.{Bool, ◌&&◌, List, map, ℕ, ◌+◌, ◌*◌, ◌-◌, ◌%◌, length, take, drop, replicate, leb}
+use Rattle.std.specs.Prelude.{◌≡◌, Bool, ◌&&◌, List, [], ◌∷◌, ℕ, ◌+◌, ◌*◌, ◌-◌, ◌%◌, length, leb, Result}
+use Rattle.std.specs.Borrow.{Bor}
 use Rattle.calculus.specs.Limits.{most_sets, most_constraints}
 use Rattle.calculus.specs.Meaning.{Constraint}
 use Rattle.calculus.specs.Problem.{uses}
 use Rattle.calculus.specs.Encoding.{encode_constraint}
-use Rattle.calculus.specs.Reading.{Parsed, parsed, refused, ◌>>=◌, ask, byte, bytes, words, ascending, in_range, letters}
+use Rattle.calculus.specs.Reading.{Parsed, parsed, ◌>>=◌, ask, byte, bytes, words, ascending, in_range, letters}
+use Rattle.questions.specs.declared.refusal.Refusal.{Refusal}
+use Rattle.questions.specs.Answers.{Answers}
 use Rattle.slices.specs.Bytes.{places_from, filled}
-use Rattle.problem.specs.declared.sections.Section.{Section}
-use Rattle.problem.specs.declared.sections.Tables.{Tables}
+use Rattle.problem.specs.declared.table.Line.{Line}
+use Rattle.problem.specs.declared.sections.Found.{Found}
 
 -- ---- a section
 
@@ -28,8 +31,11 @@ section size number test bs = do
 abbrev pub constants_test : ℕ → List ℕ → Bool
 constants_test k ws = ascending (words ws) && in_range (words ws)
 
+abbrev pub letters_test : (lo hi : ℕ) → ℕ → List ℕ → Bool
+letters_test lo hi n ns = letters lo hi ns
+
 abbrev pub variables_test : ℕ → List ℕ → Bool
-variables_test n ns = letters 97 122 ns
+variables_test = letters_test 97 122
 
 abbrev pub sets_test : ℕ → List ℕ → Bool
 sets_test s ss = letters 65 90 ss && leb s most_sets
@@ -37,41 +43,45 @@ sets_test s ss = letters 65 90 ss && leb s most_sets
 abbrev pub constants_section : List ℕ → Parsed (ℕ × List ℕ × List ℕ)
 constants_section = section 2 3 constants_test
 
+-- refused with a number, unless the letters are as told
+abbrev pub letters_section : ℕ → (lo hi : ℕ) → List ℕ → Parsed (ℕ × List ℕ × List ℕ)
+letters_section number lo hi = section 1 number (letters_test lo hi)
+
 abbrev pub variables_section : List ℕ → Parsed (ℕ × List ℕ × List ℕ)
 variables_section = section 1 4 variables_test
 
 abbrev pub sets_section : List ℕ → Parsed (ℕ × List ℕ × List ℕ)
 sets_section = section 1 5 sets_test
 
--- the number that refuses it, or its count and where the next one begins
-abbrev pub refused_section : ℕ → Section
-refused_section n = record { refusal = n; count = 0; next = 0 }
+-- a part and what follows it are those that were parsed, with size bytes for each of the count
+abbrev pub SplitAs : ℕ → ℕ × List ℕ × List ℕ → Bor (List ℕ) × Bor (List ℕ) → Type 0
+SplitAs size a r = (length r.0.now ≡ size * a.0) × (r.0.now ≡ a.1) × (r.1.now ≡ a.2)
 
-unfoldable pub section_of : ℕ → Parsed (ℕ × List ℕ × List ℕ) → Section
-section_of len (parsed a) = record { refusal = 0; count = a.0; next = len - length a.2 }
-section_of len (refused n) = refused_section n
-
--- the letters of n variables after k constants, and of s sets after those
-unfoldable pub variables_of : List ℕ → ℕ → ℕ → List ℕ
-variables_of bs k n = take n (drop (2 + 2 * k) bs)
-
-unfoldable pub sets_of : List ℕ → ℕ → ℕ → ℕ → List ℕ
-sets_of bs k n s = take s (drop (3 + 2 * k + n) bs)
+abbrev pub Splits : ℕ → Parsed (ℕ × List ℕ × List ℕ) → Result (Bor (List ℕ) × Bor (List ℕ)) Refusal → Type 0
+Splits size = Answers (SplitAs size)
 
 -- ---- the constraints
-
--- where each stands, the first at a place
-abbrev pub starts_from : ℕ → List Constraint → List ℕ
-starts_from at ls = places_from (λ l. length (encode_constraint l)) at ls
 
 -- the term number of each one's witness, w being the next: that one too where it has none
 abbrev pub witnesses_from : ℕ → List Constraint → List ℕ
 witnesses_from w ls = places_from uses w ls
 
-abbrev pub refused_tables : ℕ → Tables
-refused_tables n = record { refusal = n; next = 0; terms = 0; offsets = replicate most_constraints 0; witnesses = replicate most_constraints 0 }
+-- a line for each: where it stands, and the number of its witness
+abbrev pub no_line : Line
+no_line = record { at = 0; witness = record { 0 = 0 } }
 
--- the number that refuses one; or where they end, how many terms there are, and both tables (question 11 comes later, so a witness is told by its last byte)
-unfoldable pub tables_of : ℕ → ℕ → ℕ → Parsed (List Constraint × ℕ × List ℕ) → Tables
-tables_of len at w (parsed a) = record { refusal = 0; next = len - length a.2; terms = a.1; offsets = filled most_constraints (starts_from at a.0); witnesses = filled most_constraints (map (λ x. x % 256) (witnesses_from w a.0)) }
-tables_of len at w (refused n) = refused_tables n
+abbrev pub lines_from : (at w : ℕ) → List Constraint → List Line
+lines_from at w [] = []
+lines_from at w (l ∷ ls) = record { at = at; witness = record { 0 = w } } ∷ lines_from (at + length (encode_constraint l)) (w + uses l) ls
+
+-- a witness is told by its last byte, since question 11 comes later
+abbrev pub lines_found : (at w : ℕ) → List Constraint → List Line
+lines_found at w [] = []
+lines_found at w (l ∷ ls) = record { at = at; witness = record { 0 = w % 256 } } ∷ lines_found (at + length (encode_constraint l)) (w + uses l) ls
+
+-- how many bytes they have of a number of bytes, how many terms there are, and the lines
+unfoldable pub found_of : (at w len : ℕ) → List Constraint × ℕ × List ℕ → Found
+found_of at w len a = record { length = len - length a.2; terms = a.1; lines = filled no_line most_constraints (lines_found at w a.0) }
+
+abbrev pub FoundAs : (at w len : ℕ) → List Constraint × ℕ × List ℕ → Found → Type 0
+FoundAs at w len a r = r ≡ found_of at w len a

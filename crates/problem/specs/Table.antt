@@ -1,5 +1,5 @@
 -- A problem's table, and what is read through it. Assumes nothing: these are definitions.
-use Rattle.std.specs.Prelude.{◌≡◌, List, [], ℕ, ◌+◌, ◌*◌, ◌<◌, length, get_or, replicate, ℤ, pos}
+use Rattle.std.specs.Prelude.{◌≡◌, List, [], ℕ, ◌+◌, ◌*◌, ◌<◌, length, get_or, ℤ, pos, Option, Some, None}
 use Rattle.calculus.specs.Limits.{most_constraints}
 use Rattle.calculus.specs.Terms.{Term, term}
 use Rattle.calculus.specs.Relations.{equal, union, disjoint, subset, intersection, unequal}
@@ -7,62 +7,51 @@ use Rattle.calculus.specs.Meaning.{Constraint, member, nonmember, same, differen
 use Rattle.calculus.specs.Problem.{Problem, constant_count, nameable, term_count, set_count}
 use Rattle.calculus.specs.Reading.{Parsed, parsed, refused, read}
 use Rattle.slices.specs.Bytes.{filled}
-use Rattle.problem.specs.declared.Table.{Table}
-use Rattle.problem.specs.declared.Totals.{Totals}
-use Rattle.problem.specs.Sections.{starts_from, witnesses_from}
+use Rattle.problem.specs.declared.table.Line.{Line}
+use Rattle.problem.specs.declared.table.Table.{Table}
+use Rattle.problem.specs.Sections.{witnesses_from, no_line, lines_from}
 
 -- the bytes before the constraints: four count bytes, two for each constant, a letter for each variable and set
 abbrev pub header_length : Problem → ℕ
 header_length prob = 4 + 2 * constant_count prob + length prob.variables + set_count prob
 
--- What a table holds. Of a problem that is refused: the number of the question, and 0 in all else. Of one that is accepted: 0, how many
--- constants, variables, sets, constraints and terms (witnesses too) there are, and for each constraint where its kind byte stands and the
--- term number of its witness (where it has none, that of the next one); both lists are filled up with 0 to most_constraints.
-abbrev pub refused_table : ℕ → Table
-refused_table n = record { refusal = n; constants = 0; variables = 0; sets = 0; constraints = 0; terms = 0; offsets = replicate most_constraints 0; witnesses = replicate most_constraints 0 }
-
+-- What the table of a problem holds: how many constants, variables, sets, constraints and terms (witnesses too) there are, and for each
+-- constraint where its kind byte stands and the term number of its witness (where it has none, that of the next one). The lines are filled
+-- up with 0 to most_constraints.
 unfoldable pub problem_table : Problem → Table
 problem_table prob = record {
-  refusal = 0;
   constants = constant_count prob;
   variables = length prob.variables;
   sets = set_count prob;
   constraints = length prob.constraints;
   terms = term_count prob;
-  offsets = filled most_constraints (starts_from (header_length prob) prob.constraints);
-  witnesses = filled most_constraints (witnesses_from (nameable prob) prob.constraints);
+  lines = filled no_line most_constraints (lines_from (header_length prob) (nameable prob) prob.constraints);
 }
 
-unfoldable pub table_is : Parsed Problem → Table
-table_is (parsed prob) = problem_table prob
-table_is (refused n) = refused_table n
-
-unfoldable pub table_of : List ℕ → Table
-table_of bs = table_is (read bs)
+abbrev pub TableOf : Problem → Table → Type 0
+TableOf prob tab = tab ≡ problem_table prob
 
 -- ---- through the table
 
+-- the table of what was read, if that is a problem
+unfoldable pub table_of : Parsed Problem → Option Table
+table_of (parsed prob) = Some (problem_table prob)
+table_of (refused n) = None
+
 -- it is the table of these bytes, which are a problem
-pub record Opened (bs : List ℕ) (tab : Table) : Type 0 where
-  pub made : tab ≡ table_of bs
-  pub accepted : tab.refusal ≡ 0
+abbrev pub Opened : List ℕ → Table → Type 0
+Opened bs tab = table_of (read bs) ≡ Some tab
 
--- a table from its parts
-abbrev pub table_by : Totals → (offsets witnesses : List ℕ) → Table
-table_by t offsets witnesses = record { refusal = t.refusal; constants = t.constants; variables = t.variables; sets = t.sets; constraints = t.constraints; terms = t.terms; offsets = offsets; witnesses = witnesses }
-
--- they are the parts of the table of these bytes, which are a problem
-pub record Tabled (bs : List ℕ) (t : Totals) (offsets witnesses : List ℕ) : Type 0 where
-  pub opened : Opened bs (table_by t offsets witnesses)
-  pub sized : length offsets ≡ most_constraints
-  pub sized_witnesses : length witnesses ≡ most_constraints
+-- the line of constraint i
+abbrev pub line_of : Table → ℕ → Line
+line_of tab i = get_or tab.lines i no_line
 
 -- constraint i of a problem is there, and its kind byte stands at an offset
 pub record Stands (bs : List ℕ) (i at : ℕ) : Type 0 where
   pub tab : Table
   pub opened : Opened bs tab
   pub there : i < tab.constraints
-  pub offset : at ≡ get_or tab.offsets i 0
+  pub offset : at ≡ (line_of tab i).at
 
 -- the constants of a problem that was read, and the value of constant t
 unfoldable pub values_of : Parsed Problem → List ℤ

@@ -1,153 +1,98 @@
-// The sections of a problem: each function answers the question that refuses it, or where the next section begins.
-ghost use Rattle.std.specs.Prelude.{◌≡◌, ◌+◌, ◌*◌, ◌≤◌, ◌<◌, length, drop};
-ghost use Rattle.calculus.specs.Limits.{most_bytes, most_sets, most_constraints};
-ghost use Rattle.calculus.specs.Reading.{constraints};
-ghost use Rattle.questions.specs.Questions.{ConstantsRise, constants_of};
-ghost use Rattle.problem.specs.Sections.{counted, constants_section, variables_section, sets_section, section_of, refused_section, refused_tables, tables_of};
+// The sections of a problem: each function answers the question that refuses it, or its part and what follows.
+ghost use Rattle.std.specs.Prelude.{◌≡◌, ◌+◌, ◌*◌, ◌≤◌, ◌<◌, length};
+ghost use Rattle.calculus.specs.Limits.{most_bytes, most_constraints};
+ghost use Rattle.calculus.specs.Reading.{constraints, words};
+ghost use Rattle.questions.specs.Answers.{Answers, number_of};
+ghost use Rattle.problem.specs.Sections.{counted, letters_section, constants_section, variables_section, sets_section, Splits, FoundAs};
 
-use questions::{Sizes, constants_ok, constraint_at, letters_ok};
-use terms::{MOST_CONSTRAINTS, MOST_SETS};
-
-// The number of the question that refuses a section, and 0 in all else; or 0, its count, and where the next one begins.
-#[derive(Clone, Copy)]
-pub struct Section {
-    pub refusal: u8,
-    pub count: usize,
-    pub next: usize,
-}
-
-// Refused by question n.
-fn stopped(n: u8) -> Section
-    ensures { result ≡ refused_section n }
-{
-    Section {
-        refusal: n,
-        count: 0,
-        next: 0,
-    }
-}
+use crate::table::Line;
+use questions::{Names, Refusal, constants_ok, constraint_at, letters_ok};
+use terms::{MOST_CONSTRAINTS, MOST_SETS, Term};
 
 // Question 2 of a section: its count, and size bytes for each, are there.
-fn section_at(problem: &[u8], at: usize, size: usize) -> Section
-    requires { (at ≤ length problem.now) × (length problem.now ≤ most_bytes) × (size ≤ 2) }
-    ensures { result ≡ section_of (length problem.now) (counted size (drop at problem.now)) }
+fn section_at(bytes: &[u8], size: usize) -> Result<(&[u8], &[u8]), Refusal>
+    requires { size ≤ 2 }
+    ensures { Splits size (counted size bytes.now) result }
 {
-    if problem.len() <= at {
-        return stopped(2);
-    }
-    let n = problem[at] as usize;
-    let a = at + 1;
-    let e = a + size * n;
-    if problem.len() < e {
-        return stopped(2);
-    }
-    Section {
-        refusal: 0,
-        count: n,
-        next: e,
-    }
+    let Some((n, rest)) = bytes.split_first() else {
+        return Err(Refusal::CutShort);
+    };
+    rest.split_at_checked(size * *n as usize)
+        .ok_or(Refusal::CutShort)
 }
 
 // Questions 2 and 3, of the constants.
-pub fn constants_at(problem: &[u8]) -> Section
-    requires { length problem.now ≤ most_bytes }
-    ensures { result ≡ section_of (length problem.now) (constants_section problem.now) }
+pub fn constants_at(bytes: &[u8]) -> Result<(&[u8], &[u8]), Refusal>
+    ensures { Splits 2 (constants_section bytes.now) result }
 {
-    let part = section_at(problem, 0, 2);
-    if part.refusal != 0 {
-        return part;
+    let (constants, rest) = section_at(bytes, 2)?;
+    if !constants_ok(constants) {
+        return Err(Refusal::Constants);
     }
-    if constants_ok(problem, part.count) {
-        return part;
+    Ok((constants, rest))
+}
+
+// Questions 2 and 4 or 5: letters from lo to hi, or they are refused.
+fn letters_at(bytes: &[u8], lo: u8, hi: u8, no: Refusal) -> Result<(&[u8], &[u8]), Refusal>
+    ensures { Splits 1 (letters_section (number_of no) lo hi bytes.now) result }
+{
+    let (letters, rest) = section_at(bytes, 1)?;
+    if !letters_ok(letters, lo, hi) {
+        return Err(no);
     }
-    stopped(3)
+    Ok((letters, rest))
 }
 
 // Questions 2 and 4, of the variables.
-pub fn variables_at(problem: &[u8], at: usize) -> Section
-    requires { (at ≤ length problem.now) × (length problem.now ≤ most_bytes) }
-    ensures { result ≡ section_of (length problem.now) (variables_section (drop at problem.now)) }
+pub fn variables_at(bytes: &[u8]) -> Result<(&[u8], &[u8]), Refusal>
+    ensures { Splits 1 (variables_section bytes.now) result }
 {
-    let part = section_at(problem, at, 1);
-    if part.refusal != 0 {
-        return part;
-    }
-    let a = at + 1;
-    let e = part.next;
-    if letters_ok(&problem[a..e], 97, 122) {
-        return part;
-    }
-    stopped(4)
+    letters_at(bytes, b'a', b'z', Refusal::Variables)
 }
 
 // Questions 2 and 5, of the set variables.
-pub fn sets_at(problem: &[u8], at: usize) -> Section
-    requires { (at ≤ length problem.now) × (length problem.now ≤ most_bytes) }
-    ensures { result ≡ section_of (length problem.now) (sets_section (drop at problem.now)) }
+pub fn sets_at(bytes: &[u8]) -> Result<(&[u8], &[u8]), Refusal>
+    ensures { Splits 1 (sets_section bytes.now) result }
 {
-    let part = section_at(problem, at, 1);
-    if part.refusal != 0 {
-        return part;
+    let (letters, rest) = letters_at(bytes, b'A', b'Z', Refusal::Sets)?;
+    if MOST_SETS < letters.len() {
+        return Err(Refusal::Sets);
     }
-    if MOST_SETS < part.count {
-        return stopped(5);
-    }
-    let a = at + 1;
-    let e = part.next;
-    if letters_ok(&problem[a..e], 65, 90) {
-        return part;
-    }
-    stopped(5)
+    Ok((letters, rest))
 }
 
-// What the constraints are found to be: the question that refuses one, and 0 in all else; or 0, where they end, how many terms there
-// are, and of each where it stands and the number of its witness.
+// What the constraints are found to be: how many bytes they have, how many terms there are then, and a line for each.
 #[derive(Clone, Copy)]
-pub struct Tables {
-    pub refusal: u8,
-    pub next: usize,
+pub struct Found {
+    pub length: usize,
     pub terms: usize,
-    pub offsets: [u16; MOST_CONSTRAINTS],
-    pub witnesses: [u8; MOST_CONSTRAINTS],
+    pub lines: [Line; MOST_CONSTRAINTS],
 }
 
-// Refused by question n.
-fn no_tables(n: u8) -> Tables
-    ensures { result ≡ refused_tables n }
+// The constraints, one by one; the first stands at a place of the problem.
+pub fn constraints_at(bytes: &[u8], at: usize, m: usize, names: &Names) -> Result<Found, Refusal>
+    requires { (at + length bytes.now ≤ most_bytes) × (m ≤ most_constraints) × (length (words names.now.constants.now) ≤ names.now.nameable) }
+    ensures { Answers (FoundAs at names.now.nameable (length bytes.now)) (constraints (words names.now.constants.now) names.now.nameable names.now.sets names.now.nameable m bytes.now) result }
 {
-    Tables {
-        refusal: n,
-        next: 0,
-        terms: 0,
-        offsets: [0u16; MOST_CONSTRAINTS],
-        witnesses: [0u8; MOST_CONSTRAINTS],
+    let mut lines = [Line {
+        at: 0,
+        witness: Term(0),
+    }; MOST_CONSTRAINTS];
+    let mut length = 0;
+    let mut terms = names.nameable;
+    // By index: what a borrow from iter_mut wrote is not known after the loop.
+    for line in 0..m {
+        let one = constraint_at(&bytes[length..], names)?;
+        lines[line] = Line {
+            at: (at + length) as u16,
+            witness: Term((terms % 256) as u8),
+        };
+        length += one.length;
+        terms += one.witnesses as usize;
     }
-}
-
-// The constraints, one by one, from a place on.
-pub fn constraints_at(problem: &[u8], at: usize, m: usize, sizes: Sizes) -> Tables
-    requires { (at ≤ length problem.now) × (length problem.now ≤ most_bytes) × (m ≤ most_constraints) × (1 + 2 * sizes.constants ≤ length problem.now) × (sizes.constants < 256) × (sizes.constants ≤ sizes.nameable) × (sizes.nameable < 512) × (sizes.sets ≤ most_sets) × ConstantsRise problem.now sizes.constants }
-    ensures { result ≡ tables_of (length problem.now) at sizes.nameable (constraints (constants_of problem.now sizes.constants) sizes.nameable sizes.sets sizes.nameable m (drop at problem.now)) }
-{
-    let mut offsets = [0u16; MOST_CONSTRAINTS];
-    let mut witnesses = [0u8; MOST_CONSTRAINTS];
-    let mut next = at;
-    let mut w = sizes.nameable;
-    for i in 0..m {
-        let one = constraint_at(problem, next, sizes);
-        if one.refusal != 0 {
-            return no_tables(one.refusal);
-        }
-        offsets[i] = next as u16;
-        witnesses[i] = (w % 256) as u8;
-        next = one.next;
-        w = w + one.witnesses as usize;
-    }
-    Tables {
-        refusal: 0,
-        next: next,
-        terms: w,
-        offsets: offsets,
-        witnesses: witnesses,
-    }
+    Ok(Found {
+        length,
+        terms,
+        lines,
+    })
 }

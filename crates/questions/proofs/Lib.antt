@@ -1,4 +1,5 @@
+pub mod Answers
 pub mod Constants
 pub mod Rises
 pub mod Parts
-pub mod Answers
+pub mod Returns

@@ -1,20 +1,18 @@
 -- Questions 3, 4 and 5 are one test: each number is above the one before, and from lo to hi.
 use mathlib.Core.Path.{◌≡◌, refl, sym, ap, ◌∙◌}
+use mathlib.Core.Logic.{◌⊎◌}
 use mathlib.Core.Bool.{Bool, true, false, ◌&&◌, and-true}
 use mathlib.Core.List.{List, [], ◌∷◌}
-use Prim.Native.Nat.{ℕ, suc, ◌+◌, ◌*◌, ◌<◌, ◌≤◌}
-use lib.ListN.{length, get_or, take, drop}
+use Prim.Native.Nat.{ℕ, suc, ◌+◌, ◌<◌, ◌≤◌}
+use lib.ListN.{length, get_or, drop}
 use lib.Dec.{leb, ltb}
 use lib.IntN.{pos, negsuc}
 use lib.Signed.{le_z}
-use borrow.Author.Tests.{lt-ltb, le-ltb}
-use Rattle.calculus.specs.Lists.{all}
-use Rattle.calculus.specs.Reading.{ascending, in_range, letters}
+use Rattle.calculus.specs.Reading.{ascending, in_range, letters, words}
 use Rattle.slices.specs.Bytes.{raised_words, rises}
-use Rattle.slices.proofs.Parts.{part_more, part_done, AllBytes, take_bytes, drop_bytes}
+use Rattle.slices.proofs.Parts.{part_more, part_done, AllBytes}
 use Rattle.slices.proofs.SignedWords.{raised_range}
-use Rattle.slices.proofs.RaisedWords.{too_low, too_high, rises_on, rises_end, and_known, above, words_rise}
-use Rattle.questions.specs.Questions.{constants_of}
+use Rattle.slices.proofs.RaisedWords.{out_of_range, rises_on, rises_end, and_known, above, words_rise}
 
 -- ---- letters
 
@@ -28,33 +26,17 @@ letters_rise lo hi (a ∷ b ∷ xs) =
 
 -- ---- constants
 
-pub constants_rise : (bs : List ℕ) → AllBytes bs → (k : ℕ) → (ascending (constants_of bs k) && in_range (constants_of bs k)) ≡ rises 768 64768 (raised_words (take (2 * k) (drop 1 bs)))
-unfolding constants_of
-constants_rise bs known k = words_rise 768 64768 (λ c. le_z (negsuc 31999) c && le_z c (pos 32000)) raised_range (take (2 * k) (drop 1 bs)) (take_bytes (2 * k) (drop 1 bs) (drop_bytes 1 bs known))
+pub constants_rise : (bs : List ℕ) → AllBytes bs → (ascending (words bs) && in_range (words bs)) ≡ rises 768 64768 (raised_words bs)
+constants_rise = words_rise 768 64768 (λ c. le_z (negsuc 31999) c && le_z c (pos 32000)) raised_range
 
 -- ---- letters, a turn of the loop and its end
 
 module _ (s : List ℕ) (lo hi i : ℕ) (l : i < length s) where
-  pub letter_low : get_or s i 0 < lo → rises lo hi (drop i s) ≡ false
-  letter_low h = ap (rises lo hi) (part_more s i l) ∙ too_low lo hi (get_or s i 0) (drop (i + 1) s) h
-
-  pub letter_high : lo ≤ get_or s i 0 → hi < get_or s i 0 → rises lo hi (drop i s) ≡ false
-  letter_high g h = ap (rises lo hi) (part_more s i l) ∙ too_high lo hi (get_or s i 0) (drop (i + 1) s) g h
+  pub letter_out : (get_or s i 0 < lo) ⊎ ((lo ≤ get_or s i 0) × (hi < get_or s i 0)) → rises lo hi (drop i s) ≡ false
+  letter_out h = ap (rises lo hi) (part_more s i l) ∙ out_of_range lo hi (get_or s i 0) (drop (i + 1) s) h
 
   pub letter_on : lo ≤ get_or s i 0 → get_or s i 0 ≤ hi → rises lo hi (drop i s) ≡ rises (get_or s i 0 + 1) hi (drop (i + 1) s)
   letter_on g h = ap (rises lo hi) (part_more s i l) ∙ rises_on lo hi (get_or s i 0) (drop (i + 1) s) g h
 
 pub letters_end : (s : List ℕ) (lo hi i : ℕ) → length s ≤ i → rises lo hi (drop i s) ≡ true
 letters_end s lo hi i l = ap (rises lo hi) (part_done s i l) ∙ rises_end lo hi
-
--- ---- each entry below n
-
-module _ (n : ℕ) (s : List ℕ) (i : ℕ) (l : i < length s) where
-  pub below_more : get_or s i 0 < n → all (λ e. ltb e n) (drop i s) ≡ all (λ e. ltb e n) (drop (i + 1) s)
-  below_more h = ap (all (λ e. ltb e n)) (part_more s i l) ∙ rw (lt-ltb (get_or s i 0) n h) refl
-
-  pub not_below : n ≤ get_or s i 0 → all (λ e. ltb e n) (drop i s) ≡ false
-  not_below h = ap (all (λ e. ltb e n)) (part_more s i l) ∙ rw (le-ltb (get_or s i 0) n h) refl
-
-pub all_end : (n : ℕ) (s : List ℕ) (i : ℕ) → length s ≤ i → all (λ e. ltb e n) (drop i s) ≡ true
-all_end n s i l = ap (all (λ e. ltb e n)) (part_done s i l)

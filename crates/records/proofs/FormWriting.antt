@@ -12,7 +12,8 @@ use Rattle.calculus.specs.Branch.{Branch}
 use Rattle.calculus.specs.Forms.{record_length, record_of}
 use Rattle.calculus.proofs.RecordFields.{record_is_long}
 use Rattle.slices.specs.Bytes.{put_at}
-use Rattle.records.specs.State.{State, counts_of, state, with_form, with_step}
+use Rattle.calculus.specs.Run.{DONE, SPENT, NOROOM}
+use Rattle.records.specs.State.{State, counts_of, state, with_form, wrote_step, with_step}
 
 -- the first bytes of a record with more after it are the record
 pub record_front : (b : Branch) (n size : ℕ) (r more : List ℕ) → size ≡ record_length n → r ≡ record_of n b ++ more → take size r ≡ record_of n b
@@ -21,23 +22,23 @@ record_front b n size r more l e = rw e (take_at (record_of n b) more size (reco
 module _ (n : ℕ) (r : List ℕ) (s : State) where
   -- there is room
   pub listed_there : record_length n * s.counts.forms + record_length n ≤ length s.forms
-      → with_form n r s ≡ state (counts_of s.counts.steps (suc s.counts.forms) 0) (put_at s.forms (record_length n * s.counts.forms) r) s.trace
+      → with_form n r s ≡ state (counts_of s.counts.steps (suc s.counts.forms)) DONE (put_at s.forms (record_length n * s.counts.forms) r) s.trace
   unfolding with_form
   listed_there l = rw (le-leb (record_length n * s.counts.forms + record_length n) (length s.forms) l)
 
   -- there is none
-  pub listed_not : length s.forms < record_length n * s.counts.forms + record_length n → with_form n r s ≡ state (counts_of s.counts.steps s.counts.forms 2) s.forms s.trace
+  pub listed_not : length s.forms < record_length n * s.counts.forms + record_length n → with_form n r s ≡ state s.counts NOROOM s.forms s.trace
   unfolding with_form
   listed_not l = rw (lt-leb (record_length n * s.counts.forms + record_length n) (length s.forms) l)
 
 module _ (budget : ℕ) (r : List ℕ) (s : State) where
   -- a step is left
-  pub noted_there : s.counts.steps < budget → with_step budget r s ≡ state (counts_of (suc s.counts.steps) s.counts.forms 0) s.forms (put_at s.trace (4 * s.counts.steps) r)
+  pub noted_there : s.counts.steps < budget → with_step budget r s ≡ wrote_step r s
   unfolding with_step
   noted_there l = rw (ne_eqb s.counts.steps budget (λ e. omega arith))
 
   -- none is left
-  pub noted_not : s.counts.steps ≡ budget → with_step budget r s ≡ state (counts_of s.counts.steps s.counts.forms 1) s.forms s.trace
+  pub noted_not : s.counts.steps ≡ budget → with_step budget r s ≡ state s.counts SPENT s.forms s.trace
   unfolding with_step
   noted_not e = rw (eq-eqb s.counts.steps budget e)
 

@@ -1,18 +1,21 @@
 -- Events played one after the other: a stopped run stays as it is, and counts and buffers stay within their bounds.
-use mathlib.Core.Path.{◌≡◌, refl, ap, ◌∙◌}
-use mathlib.Core.Bool.{Bool, true, false}
+use mathlib.Core.Path.{◌≡◌, refl, ◌∙◌}
+use mathlib.Core.Bool.{Bool, true, false, cond}
 use mathlib.Core.List.{List, [], ◌∷◌, ◌++◌}
 use Prim.Native.Nat.{ℕ, ◌+◌, ◌*◌, ◌<◌, ◌≤◌}
 use native.Mathlib.Omega.{arith}
 use native.Mathlib.Nat.{mul-suc}
 use lib.ListN.{length}
 use lib.Dec.{leb, eqb}
-use borrow.Author.Tests.{leb-true, leb-false, ne_eqb, eqb-true, eqb-false}
+use borrow.Author.Tests.{leb-true, leb-false, eqb-true, eqb-false}
 use Rattle.calculus.specs.Lists.{Each}
-use Rattle.calculus.specs.Run.{Event, formed, stepped}
+use Rattle.calculus.specs.Run.{Event, formed, stepped, End, DONE, SPENT, NOROOM}
 use Rattle.calculus.specs.Forms.{record_length, record_of}
 use Rattle.calculus.proofs.RecordFields.{record_is_long}
-use Rattle.records.specs.State.{State, with_form, with_step, event, play, Fine}
+use Rattle.records.specs.declared.Counts.{Counts}
+use Rattle.records.specs.declared.Stop.{Stop}
+use Rattle.records.specs.declared.Stop.TheVariants.{Spent, NoRoom}
+use Rattle.records.specs.State.{State, state, stopped, with_form, wrote_step, with_step, going, event, play, Fine}
 use Rattle.slices.proofs.Buffers.{put_length}
 use Rattle.records.proofs.FormWriting.{listed_there, listed_not, noted_there, noted_not}
 
@@ -29,13 +32,12 @@ module _ (n budget : ℕ) where
 
   -- ---- a stopped run
 
-  pub event_stopped : (s : State) → (s.counts.stop ≡ 0 → ⊥) → (e : Event) → event n budget s e ≡ s
-  event_stopped s h (formed b) = rw (ne_eqb s.counts.stop 0 h)
-  event_stopped s h (stepped r) = rw (ne_eqb s.counts.stop 0 h)
-
-  pub play_stopped : (s : State) → (s.counts.stop ≡ 0 → ⊥) → (es : List Event) → play n budget s es ≡ s
-  play_stopped s h [] = refl
-  play_stopped s h (e ∷ es) = ap (λ (t : State). play n budget t es) (event_stopped s h e) ∙ play_stopped s h es
+  pub play_stopped : (c : Counts) (w : Stop) (F T : List ℕ) (es : List Event) → play n budget (state c (stopped w) F T) es ≡ state c (stopped w) F T
+  play_stopped c w F T [] = refl
+  play_stopped c Spent F T (formed b ∷ es) = play_stopped c Spent F T es
+  play_stopped c Spent F T (stepped r ∷ es) = play_stopped c Spent F T es
+  play_stopped c NoRoom F T (formed b ∷ es) = play_stopped c NoRoom F T es
+  play_stopped c NoRoom F T (stepped r ∷ es) = play_stopped c NoRoom F T es
 
   -- ---- what is kept
 
@@ -70,18 +72,20 @@ module _ (n budget : ℕ) where
           let l : s.counts.steps < budget = omega (arith, d, F.within) in
           rw (noted_there budget r s l) (kept s _ F l F.written refl (put_length s.trace (4 * s.counts.steps) r (omega (arith, F.traced))))
 
+  going_kept : (s : State) → Fine n budget s → (t : State) (e : End) → Kept s t → Kept s (going e t s)
+  going_kept s F t DONE k = k
+  going_kept s F t SPENT k = same_kept s F
+  going_kept s F t NOROOM k = same_kept s F
+
   -- an event keeps a state fine
   pub fine_kept : (s : State) → Fine n budget s → (e : Event) → Shaped e → Kept s (event n budget s e)
-  fine_kept s F (formed b) w = go (eqb s.counts.stop 0) refl
-    where
-      go : (t : Bool) → eqb s.counts.stop 0 ≡ t → Kept s (event n budget s (formed b))
-      go true q = rw (q, event) (listed_kept s F (record_of n b) (record_is_long b n))
-      go false q = rw (q, event) (same_kept s F)
-  fine_kept s F (stepped r) w = go (eqb s.counts.stop 0) refl
-    where
-      go : (t : Bool) → eqb s.counts.stop 0 ≡ t → Kept s (event n budget s (stepped r))
-      go true q = rw (q, event) (noted_kept s F r w)
-      go false q = rw (q, event) (same_kept s F)
+  fine_kept s F (formed b) w = going_kept s F _ s.end (listed_kept s F (record_of n b) (record_is_long b n))
+  fine_kept s F (stepped r) w = going_kept s F _ s.end (noted_kept s F r w)
+
+  -- a step lists no form
+  pub step_forms : (s : State) (r : List ℕ) → (with_step budget r s).counts.forms ≡ s.counts.forms
+  unfolding with_step
+  step_forms s r = elim (eqb s.counts.steps budget) as (λ t. (cond t (state s.counts SPENT s.forms s.trace) (wrote_step r s)).counts.forms ≡ s.counts.forms) [ true ↦ refl | false ↦ refl ]
 
   -- and so do many
   pub play_kept : (s : State) → Fine n budget s → (es : List Event) → Each Shaped es → Kept s (play n budget s es)

@@ -20,7 +20,8 @@ use Rattle.calculus.specs.Run.{Event, formed, stepped, log, End, DONE, SPENT, NO
 use Rattle.calculus.proofs.Bools.{each_is_all}
 use Rattle.calculus.proofs.LogEvents.{log_each}
 use Rattle.calculus.proofs.RecordFields.{record_is_long}
-use Rattle.records.specs.State.{State, counts_of, state, stop_number, with_form, play, begun, state_left}
+use Rattle.records.specs.declared.Stop.TheVariants.{Spent, NoRoom}
+use Rattle.records.specs.State.{State, counts_of, state, with_form, play, begun, state_left}
 use Rattle.slices.specs.Bytes.{put_at}
 use Rattle.slices.proofs.Buffers.{put_length, put_nothing, put_after, put_first}
 use Rattle.records.proofs.FormWriting.{listed_there, listed_not, noted_there, noted_not}
@@ -28,15 +29,15 @@ use Rattle.records.proofs.Playing.{Shaped, play_stopped}
 
 -- what a tally adds to a run of n terms that has taken a steps and listed f forms
 abbrev pub ahead : (n a f : ℕ) → List ℕ → List ℕ → Tally → State
-ahead n a f forms trace t = state (counts_of (a + t.steps) (f + t.forms) (stop_number t.end)) (put_at forms (record_length n * f) t.records) (put_at trace (4 * a) t.trace)
+ahead n a f forms trace t = state (counts_of (a + t.steps) (f + t.forms)) t.end (put_at forms (record_length n * f) t.records) (put_at trace (4 * a) t.trace)
 
 -- equal parts
-same_state : {a a' f f' e : ℕ} {forms forms' trace trace' : List ℕ} → a ≡ a' → f ≡ f' → forms ≡ forms' → trace ≡ trace' → state (counts_of a f e) forms trace ≡ state (counts_of a' f' e) forms' trace'
+same_state : {a a' f f' : ℕ} {e : End} {forms forms' trace trace' : List ℕ} → a ≡ a' → f ≡ f' → forms ≡ forms' → trace ≡ trace' → state (counts_of a f) e forms trace ≡ state (counts_of a' f') e forms' trace'
 same_state p q r s = rw (p, q, r, s)
 
 module _ (n : ℕ) (a f : ℕ) (forms trace : List ℕ) where
   -- nothing more
-  ahead_stop : (e : End) → state (counts_of a f (stop_number e)) forms trace ≡ ahead n a f forms trace (stop e)
+  ahead_stop : (e : End) → state (counts_of a f) e forms trace ≡ ahead n a f forms trace (stop e)
   ahead_stop e = rw (add-zero a, add-zero f, put_nothing forms (record_length n * f), put_nothing trace (4 * a))
 
   -- first a form
@@ -53,7 +54,7 @@ module _ (n : ℕ) (a f : ℕ) (forms trace : List ℕ) where
 
 -- a run that goes on, with l steps left in the budget and q bytes left in the form buffer
 pub play_on : (n budget : ℕ) (es : List Event) → Each Shaped es → (a l f q : ℕ) (forms trace : List ℕ) → a + l ≡ budget → record_length n * f + q ≡ length forms → 4 * budget ≤ length trace
-    → play n budget (state (counts_of a f 0) forms trace) es ≡ ahead n a f forms trace (tally n l q es)
+    → play n budget (state (counts_of a f) DONE forms trace) es ≡ ahead n a f forms trace (tally n l q es)
 play_on n budget [] w a l f q forms trace ea ef et = ahead_stop n a f forms trace DONE
 play_on n budget (formed b ∷ es) w a l f q forms trace ea ef et = go (leb (length (record_of n b)) q) refl (play_on n budget es w.1)
   where
@@ -61,10 +62,10 @@ play_on n budget (formed b ∷ es) w a l f q forms trace ea ef et = go (leb (len
     r = record_of n b
 
     s : State
-    s = state (counts_of a f 0) forms trace
+    s = state (counts_of a f) DONE forms trace
 
     go : (t : Bool) → leb (length r) q ≡ t
-        → ((a l f q : ℕ) (forms trace : List ℕ) → a + l ≡ budget → record_length n * f + q ≡ length forms → 4 * budget ≤ length trace → play n budget (state (counts_of a f 0) forms trace) es ≡ ahead n a f forms trace (tally n l q es))
+        → ((a l f q : ℕ) (forms trace : List ℕ) → a + l ≡ budget → record_length n * f + q ≡ length forms → 4 * budget ≤ length trace → play n budget (state (counts_of a f) DONE forms trace) es ≡ ahead n a f forms trace (tally n l q es))
         → play n budget (with_form n r s) es ≡ ahead n a f forms trace (tally n l q (formed b ∷ es))
     go true t ih =
         let m = leb-true (length r) q t in
@@ -74,12 +75,12 @@ play_on n budget (formed b ∷ es) w a l f q forms trace ea ef et = go (leb (len
         ∙ ahead_form n a f forms trace r (record_is_long b n) (omega arith) (tally n l (q - length r) es))
     go false t ih =
         let m = leb-false (length r) q t in
-        rw (t, tally, listed_not n r s (omega (arith, record_is_long b n))) (play_stopped n budget (state (counts_of a f 2) forms trace) (λ z. omega arith) es ∙ ahead_stop n a f forms trace NOROOM)
+        rw (t, tally, listed_not n r s (omega (arith, record_is_long b n))) (play_stopped n budget (counts_of a f) NoRoom forms trace es ∙ ahead_stop n a f forms trace NOROOM)
 play_on n budget (stepped r ∷ es) w a zero f q forms trace ea ef et =
-    rw (noted_not budget r (state (counts_of a f 0) forms trace) (omega arith)) (play_stopped n budget (state (counts_of a f 1) forms trace) (λ z. omega arith) es ∙ ahead_stop n a f forms trace SPENT)
+    rw (noted_not budget r (state (counts_of a f) DONE forms trace) (omega arith)) (play_stopped n budget (counts_of a f) Spent forms trace es ∙ ahead_stop n a f forms trace SPENT)
 play_on n budget (stepped r ∷ es) w a (suc l) f q forms trace ea ef et =
     let p = put_length trace (4 * a) r (omega (arith, w.0)) in
-    rw (noted_there budget r (state (counts_of a f 0) forms trace) (omega arith))
+    rw (noted_there budget r (state (counts_of a f) DONE forms trace) (omega arith))
     (play_on n budget es w.1 (suc a) l f q forms (put_at trace (4 * a) r) (omega arith) ef (omega arith) ∙ ahead_step n a f forms trace r w.0 (omega arith) (tally n l q es))
 
 -- from the beginning

@@ -1,53 +1,76 @@
 // What a run writes: records of solved forms and of steps, and the counts.
 #![tactic(auto)]
 
-ghost use Rattle.std.specs.Prelude.{◌≡◌, [], ◌∷◌, ◌+◌, ◌*◌, ◌≤◌, ◌<◌, length};
+ghost use Rattle.std.specs.Prelude.{◌≡◌, [], ◌∷◌, ◌+◌, ◌*◌, ◌≤◌, ◌<◌, ◌≢◌, length};
 ghost use Rattle.calculus.specs.Limits.{most_terms};
+ghost use Rattle.calculus.specs.Run.{DONE};
 ghost use Rattle.calculus.specs.Forms.{record_of, record_length};
 ghost use Rattle.calculus.specs.Invariants.{Falls};
-ghost use Rattle.slices.specs.Bytes.{put_at};
 ghost use Rattle.branch.specs.Held.{held};
-ghost use Rattle.records.specs.State.{state, with_form, with_step, Fine};
+ghost use Rattle.records.specs.State.{written, with_form, with_step, end_of, SameBuffers};
 
 use branch::{Branch, record_length};
 use slices::put;
 
-// Steps taken and forms written; and why the run stopped: 0 it has not, 1 the budget is spent, 2 there is no room.
+// Why a run stops before its end: the budget is spent, or there is no room for a form.
+#[derive(Clone, Copy, PartialEq, Eq)]
+pub enum Stop {
+    Spent,
+    NoRoom,
+}
+
+// Steps taken and forms listed.
 #[derive(Clone, Copy)]
 pub struct Counts {
     pub steps: usize,
     pub forms: usize,
-    pub stop: u8,
 }
 
-// Lists a solved form of the first terms, if its record fits what is left of the form buffer.
-pub fn list_form(b: Branch, terms: u8, c: Counts, forms: &mut [u8]) -> Counts
-    requires { (terms ≤ most_terms) × Falls b.parents × (record_length terms * c.forms ≤ length forms.old) × (terms ≡ 0 → c.forms ≡ 0) }
-    ensures { state result forms.new [] ≡ with_form terms (record_of terms (held b)) (state c forms.old []) }
-{
-    let size = record_length(terms);
-    let at = size * c.forms;
-    if forms.len() - at < size {
-        return Counts {
-            steps: c.steps,
-            forms: c.forms,
-            stop: 2,
-        };
-    }
-    let bytes = b.record(terms);
-    put(&bytes[..size], forms, at);
-    Counts {
-        steps: c.steps,
-        forms: c.forms + 1,
-        stop: 0,
-    }
+// The counts, and the buffers that were lent.
+#[derive(Drop)]
+pub struct Output<'a> {
+    pub counts: Counts,
+    pub forms: &'a mut [u8],
+    pub trace: &'a mut [u8],
 }
 
-// Writes a step into the trace: its rule, constraint, root concerned and children left.
-pub fn write_step(trace: &mut [u8], steps: usize, rule: u8, constraint: u8, root: u8, children: u8)
-    requires { 4 * steps + 4 ≤ length trace.old }
-    ensures { trace.new ≡ put_at trace.old (4 * steps) (rule ∷ constraint ∷ root ∷ children ∷ []) }
-{
-    let bytes = [rule, constraint, root, children];
-    put(&bytes, trace, 4 * steps);
+impl Output<'_> {
+    // Lists a solved form of the first terms, if its record fits what is left of the form buffer.
+    pub fn list_form(&mut self, b: &Branch, terms: u8) -> Result<(), Stop>
+        requires { (terms ≤ most_terms) × Falls b.now.parents × (record_length terms * self.old.counts.forms ≤ length self.old.forms.now) × (terms ≡ 0 → self.old.counts.forms ≡ 0) }
+        ensures lists { written self.new (end_of result) ≡ with_form terms (record_of terms (held b.now)) (written self.old DONE) }
+        ensures same_buffers { SameBuffers self.old self.new }
+    {
+        let size = record_length(terms);
+        let at = size * self.counts.forms;
+        if self.forms.len() - at < size {
+            return Err(Stop::NoRoom);
+        }
+        put(&b.record(terms)[..size], self.forms, at);
+        self.counts.forms += 1;
+        Ok(())
+    }
+
+    // Writes a step into the trace and counts it, if the budget has one left: its rule, constraint, root concerned and children left.
+    #[tactic(auto, unfolding(crate::specs::State::with_step))]
+    pub fn write_step(
+        &mut self,
+        budget: usize,
+        rule: u8,
+        constraint: u8,
+        root: u8,
+        children: u8,
+    ) -> Result<(), Stop>
+        requires { self.old.counts.steps ≢ budget → 4 * self.old.counts.steps + 4 ≤ length self.old.trace.now }
+        ensures writes { written self.new (end_of result) ≡ with_step budget (rule ∷ constraint ∷ root ∷ children ∷ []) (written self.old DONE) }
+        ensures same_buffers { SameBuffers self.old self.new }
+    {
+        if self.counts.steps == budget {
+            return Err(Stop::Spent);
+        }
+        let bytes = [rule, constraint, root, children];
+        put(&bytes, self.trace, 4 * self.counts.steps);
+        self.counts.steps += 1;
+        Ok(())
+    }
 }

@@ -1,23 +1,20 @@
 // The rules as tables: which a constraint has, what each needs and gives.
 #![tactic(auto)]
 
-ghost use Rattle.std.specs.Prelude.{◌≡◌, ◌<◌};
+ghost use Rattle.std.specs.Prelude.{◌≡◌, [], ◌<◌};
 ghost use Rattle.calculus.specs.Limits.{most_sets};
+ghost use Rattle.problem.specs.Table.{kind_of};
+ghost use Rattle.constraints.specs.Decoded.{decoded};
 ghost use Rattle.rules.specs.Spans.{Spanned};
 ghost use Rattle.rules.specs.Rows.{sets, numbered, HasRow, HasChild, laid, parted, only, child, literals_of, count_of, denying};
 
-use terms::{OUT, SetVar};
+use constraints::{Constraint, Negation, Relation};
+use std::ops::Range;
+use terms::{OUT, SetVar, Term};
 
 // A literal, by its number: k is "in set k", OUT + k is "out of set k".
 #[derive(Clone, Copy)]
 pub struct Literal(pub u8);
-
-// Rules by number, from the first up to the end.
-#[derive(Clone, Copy)]
-pub struct Span {
-    pub first: u8,
-    pub end: u8,
-}
 
 // A propagation rule, at any class: two literals that it needs known (the same twice, if it needs but one), and the one that it gives.
 #[derive(Clone, Copy)]
@@ -35,33 +32,38 @@ pub struct Child(pub Literal, pub Literal, pub Literal);
 #[derive(Clone, Copy)]
 pub struct Denial(pub Child, pub Child, pub Child);
 
-// The propagation rules of a constraint of a kind, or its split.
-pub fn span_of(kind: u8, split: bool) -> Span
-    ensures { Spanned split kind result.first result.end }
+// A rule of a constraint, by its number, and the root that it concerns.
+#[derive(Clone, Copy)]
+pub struct Instance {
+    pub constraint: Constraint,
+    pub rule: u8,
+    pub root: Term,
+}
+
+// The propagation rules of a constraint, by number, or its split.
+pub fn span_of(l: Constraint, split: bool) -> Range<u8>
+    ensures { Spanned split (kind_of (decoded [] l)) result.start result.end }
 {
     if split {
-        return match kind {
-            6 => Span { first: 7, end: 8 },
-            7 => Span { first: 12, end: 13 },
-            11 => Span { first: 20, end: 21 },
-            12 => Span { first: 20, end: 21 },
-            _ => Span { first: 0, end: 0 },
+        return match l {
+            Constraint::Negated(Negation::Unequal, _, _, _, _) => 7..8,
+            Constraint::Related(Relation::Union, _, _, _) => 12..13,
+            Constraint::Listed(_, _) => 20..21,
+            _ => 0..0,
         };
     }
-    match kind {
-        1 => Span { first: 1, end: 2 },
-        2 => Span { first: 2, end: 3 },
-        3 => Span { first: 3, end: 4 },
-        4 => Span { first: 4, end: 5 },
-        5 => Span { first: 5, end: 7 },
-        7 => Span { first: 8, end: 12 },
-        8 => Span { first: 13, end: 15 },
-        9 => Span { first: 15, end: 16 },
-        10 => Span { first: 16, end: 19 },
-        11 => Span { first: 19, end: 20 },
-        12 => Span { first: 19, end: 20 },
-        // kind 6
-        _ => Span { first: 0, end: 0 },
+    match l {
+        Constraint::Member(_, _) => 1..2,
+        Constraint::Nonmember(_, _) => 2..3,
+        Constraint::Same(_, _) => 3..4,
+        Constraint::Different(_, _) => 4..5,
+        Constraint::Related(Relation::Equal, _, _, _) => 5..7,
+        Constraint::Related(Relation::Union, _, _, _) => 8..12,
+        Constraint::Related(Relation::Disjoint, _, _, _) => 13..15,
+        Constraint::Related(Relation::Subset, _, _, _) => 15..16,
+        Constraint::Related(Relation::Intersection, _, _, _) => 16..19,
+        Constraint::Listed(_, _) => 19..20,
+        Constraint::Negated(_, _, _, _, _) => 0..0,
     }
 }
 
@@ -131,19 +133,14 @@ pub fn child_of(rule: u8, a: SetVar, b: SetVar, c: SetVar, n: usize) -> Child
     requires { HasChild rule a b n }
     ensures { result ≡ child (sets a b c) (literals_of rule n) }
 {
-    if rule == 7 {
-        let d = denial_of(a, b, c);
-        if n == 0 {
-            return d.0;
+    match (rule, n) {
+        (7, 0) => denial_of(a, b, c).0,
+        (7, _) => denial_of(a, b, c).1,
+        (12, 0) => alone(Literal(split_of(a, b, c).1.0)),
+        (12, _) => {
+            let s = split_of(a, b, c);
+            Child(Literal(OUT + s.1.0), Literal(s.2.0), Literal(s.2.0))
         }
-        return d.1;
+        _ => alone(row_of(rule, a, b, c).2),
     }
-    if rule == 12 {
-        let s = split_of(a, b, c);
-        if n == 0 {
-            return alone(Literal(s.1.0));
-        }
-        return Child(Literal(OUT + s.1.0), Literal(s.2.0), Literal(s.2.0));
-    }
-    alone(row_of(rule, a, b, c).2)
 }

@@ -1,4 +1,4 @@
--- Which constraints of a mask a search leaves out. For splits one is idle that has none. One of kind 4 is idle where its terms are of two classes; a list is, where each entry is a root in its set, or for splits where each root in its set is an entry. The loop of `looked_at` drops such constraints, and keeps: all that it dropped are idle.
+-- Which constraints of a mask a search leaves out. For splits one is idle that has none. One of kind 4 is idle where its terms are of two classes; a list is, where each entry is a root in its set, or for splits where each root in its set is an entry.
 use mathlib.Core.Path.{◌≡◌, refl, sym, ap, ◌∙◌, subst}
 use mathlib.Core.Logic.{◌⊎◌, inl, inr}
 use mathlib.Core.Bool.{Bool, true, false, ◌&&◌, not, and-true, false≢true}
@@ -9,8 +9,7 @@ use native.Mathlib.Omega.{arith}
 use native.Mathlib.Decide.{ℕ_discrete}
 use lib.ListN.{length, get_or}
 use lib.Dec.{eqb}
-use lib.Bits.{bit_and, and_le_l}
-use lib.Count.{count_trailing_zeros}
+use lib.Bits.{bit_and}
 use borrow.Author.Tests.{eq-eqb, ne_eqb, eqb-true}
 use Rattle.calculus.specs.Limits.{most_sets, most_terms}
 use Rattle.calculus.specs.Lists.{up_from, all, any, bit, Each}
@@ -25,8 +24,9 @@ use Rattle.calculus.proofs.Bools.{clash, and_l, and_r, or_cases, or_l, or_r, eac
 use Rattle.calculus.proofs.SearchLaws.{first_next, none_found}
 use Rattle.calculus.proofs.Sequences.{up_each, keep_each}
 use Rattle.bits.proofs.Bits.{bit_of_and, bit_pow, bit_without, no_bit}
-use Rattle.bits.proofs.Count.{lowest_set, bit_less, less_lt}
-use Rattle.problem.specs.Table.{constraints_of, constraint_of, no_constraint}
+use Rattle.problem.specs.declared.table.Table.{Table}
+use Rattle.problem.specs.Table.{Opened, constraints_of, constraint_of, no_constraint}
+use Rattle.problem.proofs.Access.{opened_sizes, constraint_count}
 use Rattle.branch.specs.Held.{root_of}
 use Rattle.branch.specs.Rows as rows
 use Rattle.branch.proofs.Roots.{root_is}
@@ -41,8 +41,7 @@ use Rattle.fits.proofs.RowBits.{known_in}
 use Rattle.fits.proofs.Listed.{covered}
 use Rattle.quiet.specs.Quiet.{Idle, Quiet, WordsOf, split_mark, mark_word}
 use Rattle.quiet.proofs.Sayings.{holds, says, chosen_said}
-use Rattle.constraints.proofs.Decoding.{in_range}
-use Rattle.marks.specs.Offsets.{AtOffset}
+use Rattle.constraints.proofs.Decoding.{constraint_in}
 use Rattle.search.specs.Narrowed.{Narrows}
 
 -- ---- constraints that are idle
@@ -106,13 +105,20 @@ module _ (n : ℕ) (b : Branch) (few : n ≤ most_terms) (A : SetVar) (low : A.i
 
 -- ---- constraint i as it is decoded
 
+-- its operands are in range
+pub in_limits : (bs : List ℕ) (tab : Table) (i : ℕ) → Opened bs tab → i < tab.constraints → ConstraintIn most_terms most_sets (constraint_of bs i)
+in_limits bs tab i o t = let s = opened_sizes bs tab o in constraint_in bs tab i o t most_terms most_sets s.2 s.1
+
 -- what one test shows to be at rest is idle
-pub rest_idle : {bs offsets witnesses words : List ℕ} {ps lines : List ℕ} {i : ℕ} (split : Bool) (l : Coded) → AtOffset bs offsets witnesses i → WordsOf (constraints_of (read bs)) words → constraint_of bs i ≡ decoded (entries_of (constraint_of bs i)) l → rests_by ps lines (get_or words i 0) split l ≡ true
+pub rest_idle : (bs : List ℕ) (tab : Table) (i : ℕ) {words ps lines : List ℕ} (split : Bool) (l : Coded) → Opened bs tab → i < tab.constraints → WordsOf (constraints_of (read bs)) words → constraint_of bs i ≡ decoded (entries_of (constraint_of bs i)) l → rests_by ps lines (get_or words i 0) split l ≡ true
     → (n : ℕ) (b : Branch) → n ≤ most_terms → Shown b ps lines → Idle split n b (get_or (constraints_of (read bs)) i no_constraint)
 unfolding constraint_of unshared_of
-rest_idle {bs} {offsets} {words = words} {ps} {lines} {i} split l t w is rest n b few s =
-    subst (λ (x : Constraint). ConstraintIn most_terms most_sets x → ((h : ℕ) → bit word h ≡ any (λ (e : Term). eqb e.index h) (entries_of x)) → Idle split n b x) (sym is) (go l (entries_of (constraint_of bs i)) rest) (in_range bs i (get_or offsets i 0) t.stands) (w.entries i t.in_problem)
+rest_idle bs tab i {words} {ps} {lines} split l o t w is rest n b few s =
+    subst (λ (x : Constraint). ConstraintIn most_terms most_sets x → ((h : ℕ) → bit word h ≡ any (λ (e : Term). eqb e.index h) (entries_of x)) → Idle split n b x) (sym is) (go l (entries_of (constraint_of bs i)) rest) (in_limits bs tab i o t) (w.entries i there)
   where
+    there : i < length (constraints_of (read bs))
+    there = omega (arith, constraint_count bs tab o)
+
     word : ℕ
     word = get_or words i 0
 
@@ -121,8 +127,8 @@ rest_idle {bs} {offsets} {words = words} {ps} {lines} {i} split l t w is rest n 
 
     -- a list of set A, and its rules 19 and 20
     list : (y : Bool) (A : CodedSet) (ts : List Term) → A.0 < most_sets → Each (λ (e : Term). e.index < most_terms) ts → ((h : ℕ) → bit word h ≡ any (λ (e : Term). eqb e.index h) ts) → eqb (unshared_of lines word y A) 0 ≡ true → (j : ℕ) → InSpan (span_of y (exactly (set_var A.0) ts)) j → first_at n b (exactly (set_var A.0) ts) j ≡ none
-    list true A ts c d f k j v = let z : j ≡ 20 = omega (arith, v.0, v.1) in subst (λ (m : ℕ). first_at n b (exactly (set_var A.0) ts) m ≡ none) (sym z) (idle_20 n b few (set_var A.0) c ts lines s.rows_are word (w.small i t.in_problem) f (eqb-true _ 0 k))
-    list false A ts c d f k j v = let z : j ≡ 19 = omega (arith, v.0, v.1) in subst (λ (m : ℕ). first_at n b (exactly (set_var A.0) ts) m ≡ none) (sym z) (idle_19 n b few (set_var A.0) c ts lines s.rows_are word (w.small i t.in_problem) f d (eqb-true _ 0 k))
+    list true A ts c d f k j v = let z : j ≡ 20 = omega (arith, v.0, v.1) in subst (λ (m : ℕ). first_at n b (exactly (set_var A.0) ts) m ≡ none) (sym z) (idle_20 n b few (set_var A.0) c ts lines s.rows_are word (w.small i there) f (eqb-true _ 0 k))
+    list false A ts c d f k j v = let z : j ≡ 19 = omega (arith, v.0, v.1) in subst (λ (m : ℕ). first_at n b (exactly (set_var A.0) ts) m ≡ none) (sym z) (idle_19 n b few (set_var A.0) c ts lines s.rows_are word (w.small i there) f d (eqb-true _ 0 k))
 
     interval_is : (y : Bool) (A : CodedSet) (p q : Term) (ts : List Term) → Idle y n b (exactly (set_var A.0) ts) → Idle y n b (interval (set_var A.0) p q ts)
     interval_is true A p q ts h j v = h j v
@@ -159,66 +165,29 @@ quiet_within split n b {bs} {mask = mask} few w s q i l z = go (bit mask i) refl
     go true y = w.idle n b few s i l y z
     go false y = q i l y
 
--- of a scope those with a split, if splits are asked for
-pub record Begins (split : Bool) (bs : List ℕ) (mask kept : ℕ) : Type 0 where
-  pub within : (i : ℕ) → bit kept i ≡ true → bit mask i ≡ true
-  pub idle : (i : ℕ) → i < length (constraints_of (read bs)) → bit mask i ≡ true → bit kept i ≡ false → (n : ℕ) (b : Branch) → Idle split n b (get_or (constraints_of (read bs)) i no_constraint)
-  pub small : kept < 2 ^ 64
+-- a scope as it is, or those with a split, if splits are asked for
+pub narrows_all : (split : Bool) (bs ps lines : List ℕ) {mask kept : ℕ} → kept ≡ mask → Narrows split bs ps lines mask kept
+narrows_all split bs ps lines e = rw e (record { within = λ i y. y; idle = λ n b few s i l y z. clash y z })
 
-pub begins_all : (split : Bool) (bs : List ℕ) {mask kept : ℕ} → mask < 2 ^ 64 → kept ≡ mask → Begins split bs mask kept
-begins_all split bs {mask} h e = rw e (record { within = λ i y. y; idle = λ i l y z. clash y z; small = h })
-
-pub begins_splits : {bs words : List ℕ} {split : Bool} (mask : ℕ) {kept : ℕ} → split ≡ true → mask < 2 ^ 64 → WordsOf (constraints_of (read bs)) words → kept ≡ bit_and mask (get_or words (mark_word split_mark) 0) → Begins split bs mask kept
-begins_splits {bs} {words} mask q h w e = rw (q, e) (record {
+pub narrows_splits : {bs words : List ℕ} (ps lines : List ℕ) {split : Bool} (mask : ℕ) {kept : ℕ} → split ≡ true → WordsOf (constraints_of (read bs)) words → kept ≡ bit_and mask (get_or words (mark_word split_mark) 0) → Narrows split bs ps lines mask kept
+narrows_splits {bs} {words} ps lines mask q w e = rw (q, e) (record {
   within = λ i y. and_l (bit mask i) (bit last i) (sym (bit_of_and mask last i) ∙ y);
-  idle = λ i l y z n b j v. clash (bit_of_and mask last i ∙ rw y (w.splits i l j v)) z;
-  small = omega (arith, h, and_le_l mask last);
+  idle = λ n b few s i l y z j v. clash (bit_of_and mask last i ∙ rw y (w.splits i l j v)) z;
 })
   where
     last : ℕ
     last = get_or words (mark_word split_mark) 0
 
--- what is narrowed from there on is narrowed from the scope
-pub narrows_from : {split : Bool} {bs ps lines : List ℕ} {among mask word : ℕ} → Begins split bs among mask → Narrows split bs ps lines mask word → Narrows split bs ps lines among word
-narrows_from {split} {bs} {ps} {lines} {among} {mask} {word} g d = record { within = λ i y. g.within i (d.within i y); idle = λ n b few s i l y z. go n b few s i l y z (bit mask i) refl }
+-- one more, which is idle, is dropped
+pub narrows_one : {split : Bool} {bs ps lines : List ℕ} {mask kept : ℕ} (k : ℕ) → Narrows split bs ps lines mask kept → kept < 2 ^ 64 → ((n : ℕ) (b : Branch) → n ≤ most_terms → Shown b ps lines → Idle split n b (get_or (constraints_of (read bs)) k no_constraint)) → {one : ℕ} → one ≡ 2 ^ k → one < 2 ^ 64 → Narrows split bs ps lines mask (bit_and kept (2 ^ 64 - 1 - one))
+narrows_one {split} {bs} {ps} {lines} {mask} {kept} k d small idle {one} is one-small = record {
+  within = λ i y. d.within i (and_l (bit kept i) (not (eqb i k)) (sym (without i) ∙ y));
+  idle = λ n b few s i l y z. go n b few s i l y (sym (without i) ∙ z) (ℕ_discrete i k);
+}
   where
-    go : (n : ℕ) (b : Branch) → n ≤ most_terms → Shown b ps lines → (i : ℕ) → i < length (constraints_of (read bs)) → bit among i ≡ true → bit word i ≡ false → (x : Bool) → bit mask i ≡ x → Idle split n b (get_or (constraints_of (read bs)) i no_constraint)
-    go n b few s i l y z true e = d.idle n b few s i l e z
-    go n b few s i l y z false e = g.idle i l y e n b
+    without : (i : ℕ) → bit (bit_and kept (2 ^ 64 - 1 - one)) i ≡ (bit kept i && not (eqb i k))
+    without i = bit_without 64 kept one i small one-small ∙ ap (λ (x : Bool). bit kept i && not x) (ap (λ (m : ℕ). bit m i) is ∙ bit_pow k i)
 
--- those that were dropped are idle, and those left to test are of the mask
-pub record Dropping (split : Bool) (bs ps lines : List ℕ) (mask kept left : ℕ) : Type 0 where
-  pub narrows : Narrows split bs ps lines mask kept
-  pub kept_small : kept < 2 ^ 64
-  pub small : left < 2 ^ 64
-  pub low : (i : ℕ) → bit left i ≡ true → bit mask i ≡ true
-
-pub drop_start : (ps lines : List ℕ) (w : ℕ) {split : Bool} {bs : List ℕ} {among mask : ℕ} → Begins split bs among mask → Dropping split bs ps lines mask mask (bit_and mask w)
-drop_start ps lines w {mask = mask} g = record { narrows = record { within = λ i e. e; idle = λ n b few s i l y z. clash y z }; kept_small = g.small; small = omega (arith, g.small, and_le_l mask w); low = λ i e. and_l (bit mask i) (bit w i) (sym (bit_of_and mask w i) ∙ e) }
-
-module _ {split : Bool} {bs ps lines : List ℕ} {mask kept left : ℕ} (d : Dropping split bs ps lines mask kept left) (some : ¬ (left ≡ 0)) where
-  abbrev lowest : ℕ
-  lowest = count_trailing_zeros 64 left
-
-  -- the lowest is of the mask
-  pub lowest_in : bit mask lowest ≡ true
-  lowest_in = d.low lowest (lowest_set 64 left d.small some)
-
-  -- it was tested: it is kept, or dropped
-  pub drop_none : {after : ℕ} → after ≡ kept → Dropping split bs ps lines mask after (bit_and left (left - 1))
-  drop_none e = rw e (record { narrows = d.narrows; kept_small = d.kept_small; small = omega (arith, d.small, less_lt left some); low = λ i y. d.low i (and_l (bit left i) (not (eqb i lowest)) (sym (bit_less 64 left i d.small some) ∙ y)) })
-
-  pub drop_one : ((n : ℕ) (b : Branch) → n ≤ most_terms → Shown b ps lines → Idle split n b (get_or (constraints_of (read bs)) lowest no_constraint)) → {one after : ℕ} → one ≡ 2 ^ lowest → one < 2 ^ 64 → after ≡ bit_and kept (2 ^ 64 - 1 - one) → Dropping split bs ps lines mask after (bit_and left (left - 1))
-  drop_one lowest-idle {one} {after} bit_is one-small p = record {
-    narrows = record { within = λ i y. d.narrows.within i (and_l (bit kept i) (not (eqb i lowest)) (sym (without i) ∙ y)); idle = λ n b few s i l y z. go n b few s i l y (sym (without i) ∙ z) (ℕ_discrete i lowest) };
-    kept_small = omega (arith, p, d.kept_small, and_le_l kept (2 ^ 64 - 1 - one));
-    small = (drop_none refl).small;
-    low = (drop_none refl).low;
-  }
-    where
-      without : (i : ℕ) → bit after i ≡ (bit kept i && not (eqb i lowest))
-      without i = ap (λ (m : ℕ). bit m i) p ∙ bit_without 64 kept one i d.kept_small one-small ∙ ap (λ (x : Bool). bit kept i && not x) (ap (λ (m : ℕ). bit m i) bit_is ∙ bit_pow lowest i)
-
-      go : (n : ℕ) (b : Branch) → n ≤ most_terms → Shown b ps lines → (i : ℕ) → i < length (constraints_of (read bs)) → bit mask i ≡ true → (bit kept i && not (eqb i lowest)) ≡ false → Dec (i ≡ lowest) → Idle split n b (get_or (constraints_of (read bs)) i no_constraint)
-      go n b few s i l y z (yes q) = subst (λ (k : ℕ). Idle split n b (get_or (constraints_of (read bs)) k no_constraint)) (sym q) (lowest-idle n b few s)
-      go n b few s i l y z (no q) = d.narrows.idle n b few s i l y (rw (ne_eqb i lowest q, and-true (bit kept i)) at z)
+    go : (n : ℕ) (b : Branch) → n ≤ most_terms → Shown b ps lines → (i : ℕ) → i < length (constraints_of (read bs)) → bit mask i ≡ true → (bit kept i && not (eqb i k)) ≡ false → Dec (i ≡ k) → Idle split n b (get_or (constraints_of (read bs)) i no_constraint)
+    go n b few s i l y z (yes q) = subst (λ (m : ℕ). Idle split n b (get_or (constraints_of (read bs)) m no_constraint)) (sym q) (idle n b few s)
+    go n b few s i l y z (no q) = d.idle n b few s i l y (rw (ne_eqb i k q, and-true (bit kept i)) at z)

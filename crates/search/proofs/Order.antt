@@ -1,6 +1,5 @@
 -- The order of the search. The first place is at the first rule that applies of the first constraint that is not idle; if all are idle, there is none.
-use mathlib.Core.Path.{◌≡◌, refl, sym, ap, ap₂, ◌∙◌}
-use mathlib.Core.Logic.{◌⊎◌, inl, inr}
+use mathlib.Core.Path.{◌≡◌, refl, ap, ap₂, ◌∙◌}
 use mathlib.Core.Bool.{Bool, true, false}
 use mathlib.Core.Option
 use mathlib.Core.Option.{Option, none, some}
@@ -8,19 +7,15 @@ use mathlib.Core.List.{List, [], ◌∷◌, ◌++◌, map}
 use Prim.Native.Nat.{ℕ, zero, suc, ◌+◌, ◌-◌, ◌<◌, ◌≤◌}
 use native.Mathlib.Omega.{arith}
 use native.Mathlib.Decide.{ℕ_discrete}
-use native.Mathlib.Numerals.{add-one}
 use lib.ListN.{length, get_or}
-use lib.Dec.{ltb}
-use borrow.Author.Tests.{ltb-true, ltb-false}
 use Rattle.calculus.specs.Lists.{up_from, first, gather}
 use Rattle.calculus.specs.Terms.{Term}
 use Rattle.calculus.specs.Relations.{applies}
 use Rattle.calculus.specs.Meaning.{Constraint}
 use Rattle.calculus.specs.Branch.{Branch, known}
 use Rattle.calculus.specs.Search.{Move, Candidate, candidates}
-use Rattle.calculus.proofs.Bools.{test}
-use Rattle.calculus.proofs.SearchLaws.{first_stop, first_next, first_left, first_none_app}
-use Rattle.calculus.proofs.Sequences.{up_more, up_done}
+use Rattle.calculus.proofs.SearchLaws.{none_found, first_stop, first_next, first_left, first_none_app}
+use Rattle.calculus.proofs.Sequences.{up_each}
 use Rattle.problem.specs.Table.{no_constraint}
 use Rattle.places.specs.Places.{span_of, InSpan, move_at, positions, first_at, offers}
 use Rattle.places.proofs.Offered.{offered}
@@ -28,26 +23,20 @@ use Rattle.fits.proofs.Lowest.{first_map}
 use Rattle.quiet.specs.Quiet.{Idle}
 use Rattle.search.specs.First.{first_place_of}
 
--- ---- positions from k up to n
+-- ---- the lowest number
 
-module _ (p : ℕ → Bool) (k n : ℕ) where
-  pub position_hit : k < n → p k ≡ true → first p (up_from k (n - k)) ≡ some k
-  position_hit l e = ap (first p) (up_more k n l) ∙ first_stop p k (up_from (k + 1) (n - (k + 1))) e
-
-  pub position_miss : k < n → p k ≡ false → first p (up_from k (n - k)) ≡ first p (up_from (k + 1) (n - (k + 1)))
-  position_miss l e = ap (first p) (up_more k n l) ∙ first_next p k (up_from (k + 1) (n - (k + 1))) e
-
-  pub positions_done : n ≤ k → first p (up_from k (n - k)) ≡ none
-  positions_done l = ap (first p) (up_done k n l)
-
--- none before position k
-pub positions_from : (p : ℕ → Bool) (n k : ℕ) → ((m : ℕ) → m < k → p m ≡ false) → first p (up_from 0 n) ≡ first p (up_from k (n - k))
-positions_from p n zero f = let z : n ≡ n - 0 = omega arith in ap (λ (m : ℕ). first p (up_from 0 m)) z
-positions_from p n (suc k) f = positions_from p n k (λ m l. f m (omega arith)) ∙ go (test (ltb k n))
+-- none below h
+pub first_lowest : (p : ℕ → Bool) (h : ℕ) → p h ≡ true → ((k : ℕ) → k < h → p k ≡ false) → (n a : ℕ) → a ≤ h → h < a + n → first p (up_from a n) ≡ some h
+first_lowest p h e f zero a l g = absurd (omega arith)
+first_lowest p h e f (suc n) a l g = go (ℕ_discrete a h) (first_lowest p h e f n (suc a))
   where
-    go : (ltb k n ≡ true) ⊎ (ltb k n ≡ false) → first p (up_from k (n - k)) ≡ first p (up_from (suc k) (n - suc k))
-    go (inl l) = position_miss p k n (ltb-true k n l) (f k (omega arith)) ∙ ap (λ (m : ℕ). first p (up_from m (n - m))) (add-one k)
-    go (inr l) = positions_done p k n (ltb-false k n l) ∙ sym (positions_done p (suc k) n (omega (arith, ltb-false k n l)))
+    go : Dec (a ≡ h) → (suc a ≤ h → h < suc a + n → first p (up_from (suc a) n) ≡ some h) → first p (a ∷ up_from (suc a) n) ≡ some h
+    go (yes q) ih = rw q (first_stop p h (up_from (suc h) n) e)
+    go (no q) ih = first_next p a (up_from (suc a) n) (f a (omega arith)) ∙ ih (omega arith) (omega arith)
+
+-- none below n
+pub first_no : (p : ℕ → Bool) (n : ℕ) → ((k : ℕ) → k < n → p k ≡ false) → first p (up_from 0 n) ≡ none
+first_no p n f = none_found p (up_from 0 n) (up_each (λ k. p k ≡ false) 0 n (λ k _ l. f k (omega arith)))
 
 -- ---- m lists in a row, from list a on
 

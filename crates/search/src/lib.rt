@@ -3,21 +3,21 @@
 
 ghost use Rattle.std.specs.Prelude.{◌≡◌, true, ℕ, ◌<◌};
 ghost use Rattle.calculus.specs.Lists.{bit};
-ghost use Rattle.calculus.specs.Branch.{Branch};
+ghost use Rattle.calculus.specs.Branch as calculus;
+ghost use Rattle.calculus.specs.Invariants.{Falls};
 ghost use Rattle.calculus.specs.Reading.{read};
 ghost use Rattle.problem.specs.Table.{constraints_of};
-ghost use Rattle.fits.specs.Words.{Lent, Shown};
-ghost use Rattle.quiet.specs.Quiet.{Quiet, WordsOf};
-ghost use Rattle.marks.specs.Offsets.{AtOffsets};
+ghost use Rattle.fits.specs.Words.{Shown};
+ghost use Rattle.quiet.specs.Quiet.{Quiet};
 ghost use Rattle.search.specs.Narrowed.{Narrows};
-ghost use Rattle.search.specs.First.{Prepared, Finds};
+ghost use Rattle.search.specs.First.{Finds};
 
-use bits::bit_at;
-use constraints::{Constraint, decode_at, entries_at};
+use bits::{Ones, bit_at, low_bits};
+use branch::Branch;
+use constraints::{decode, entries_of};
 use fits::{fitting, rests};
-use marks::{REST_WORD, SPLIT_WORD};
-use problem::Totals;
-use rules::span_of;
+use marks::{Prepared, REST_WORD, SPLIT_WORD};
+use rules::{Instance, span_of};
 use terms::Term;
 
 // What a search looks for, propagation rules or splits, and among which constraints, as bits.
@@ -27,101 +27,59 @@ pub struct Scope {
     pub among: u64,
 }
 
-// What a search answers: the number of a constraint, the rule, the root concerned, the constraint itself, and, as bits, the constraints that are left to look at. Rule 0 says that no rule applies.
+// What a search found: the number of a constraint, its rule that applies, and, as bits, the constraints that are left to look at.
 #[derive(Clone, Copy)]
 pub struct Found {
     pub number: u8,
-    pub rule: u8,
-    pub root: Term,
-    pub constraint: Constraint,
+    pub instance: Instance,
     pub left: u64,
 }
 
 // The constraints of a scope, as bits, without some that have no place: for splits those that have none, and always those that one test shows at rest.
-fn looked_at<'a>(
-    problem: &'a [u8],
-    offsets: &'a [u16],
-    witnesses: &'a [u8],
-    words: &'a [u64],
-    parents: &'a [u8],
-    rows: &'a [u64],
-    scope: Scope,
-) -> u64
-    requires { WordsOf (constraints_of (read problem.now)) words.now × Lent parents.now rows.now × AtOffsets problem.now offsets.now witnesses.now scope.among }
-    ensures { Narrows scope.split problem.now parents.now rows.now scope.among result }
+fn looked_at(run: &Prepared, b: &Branch, scope: Scope) -> u64
+    requires { Falls b.now.parents × ((i : ℕ) → bit scope.among i ≡ true → i < run.now.problem.table.constraints) }
+    ensures { Narrows scope.split run.now.problem.bytes.now b.now.parents b.now.rows scope.among result }
 {
-    let split = scope.split;
     let mut kept = scope.among;
-    if split {
-        kept = kept & words[SPLIT_WORD];
+    if scope.split {
+        kept &= run.words[SPLIT_WORD];
     }
-    let mut left = kept & words[REST_WORD];
-    while left != 0 {
-        let n = u64::trailing_zeros(left) as usize;
-        let l = decode_at(problem, n, offsets[n] as usize, witnesses[n]);
-        if rests(parents, rows, words[n], l, split) {
-            kept = kept & !bit_at(n as u8);
+    for n in Ones(kept & run.words[REST_WORD]) {
+        let l = decode(&run.problem, n as usize);
+        if rests(b, run.words[n as usize], l, scope.split) {
+            kept &= !bit_at(n);
         }
-        left = left & (left - 1);
     }
     kept
 }
 
-// The first place where a propagation rule applies, or where a split does. No constraint that the scope leaves out has one. The numbers are 0 to 63, and `words` is what `prepare` answers.
-pub fn search<'a>(
-    problem: &'a [u8],
-    numbers: &'a [u8],
-    totals: Totals,
-    offsets: &'a [u16],
-    witnesses: &'a [u8],
-    words: &'a [u64],
-    parents: &'a [u8],
-    rows: &'a [u64],
-    scope: Scope,
-) -> Found
-    requires { Prepared problem.now numbers.now totals offsets.now witnesses.now words.now × Lent parents.now rows.now × ((i : ℕ) → bit scope.among i ≡ true → i < totals.constraints) }
-    ensures { (b : Branch) → Shown b parents.now rows.now → Quiet scope.split totals.terms (constraints_of (read problem.now)) b scope.among → Finds scope.split totals.terms (constraints_of (read problem.now)) b result }
+// The first place where a propagation rule applies, or where a split does. No constraint that the scope leaves out has one.
+pub fn search(run: &Prepared, b: &Branch, scope: Scope) -> Option<Found>
+    requires { Falls b.now.parents × ((i : ℕ) → bit scope.among i ≡ true → i < run.now.problem.table.constraints) }
+    ensures { (c : calculus.Branch) → Shown c b.now.parents b.now.rows → Quiet scope.split run.now.problem.table.terms (constraints_of (read run.now.problem.bytes.now)) c scope.among → Finds scope.split run.now.problem.table.terms (constraints_of (read run.now.problem.bytes.now)) c result }
 {
-    let terms = totals.terms;
-    let split = scope.split;
-    let mut found = Found {
-        number: 0,
-        rule: 0,
-        root: Term(0),
-        constraint: Constraint::Same(Term(0), Term(0)),
-        left: 0,
-    };
-    let mut left = looked_at(problem, offsets, witnesses, words, parents, rows, scope);
-    'search: while left != 0 {
-        let n = u64::trailing_zeros(left) as usize;
-        let at = offsets[n] as usize;
-        let span = span_of(problem[at], split);
-        let end = span.end;
-        if span.first < end {
-            let l = decode_at(problem, n, at, witnesses[n]);
-            let entries = entries_at(problem, numbers, n, at, l);
-            let bits = words[n];
-            for j in span.first..end {
-                let fit = fitting(parents, rows, entries, bits, l, j);
-                if fit != 0 {
-                    let low = u64::trailing_zeros(fit) as u8;
-                    for h in low..terms {
-                        if (fit >> h) % 2 == 1 {
-                            let number = n as u8;
-                            found = Found {
-                                number: number,
-                                rule: j,
-                                root: Term(h),
-                                constraint: l,
-                                left: left,
-                            };
-                            break 'search;
-                        }
-                    }
+    let mut found = None;
+    let looked = looked_at(run, b, scope);
+    'search: for n in Ones(looked) {
+        let l = decode(&run.problem, n as usize);
+        let entries = entries_of(&run.problem, n as usize, l);
+        for rule in span_of(l, scope.split) {
+            let fit = fitting(b, entries, run.words[n as usize], l, rule);
+            for h in Ones(fit) {
+                if h < run.problem.table.terms {
+                    found = Some(Found {
+                        number: n,
+                        instance: Instance {
+                            constraint: l,
+                            rule,
+                            root: Term(h),
+                        },
+                        left: looked & !low_bits(n),
+                    });
+                    break 'search;
                 }
             }
         }
-        left = left & (left - 1);
     }
     found
 }

@@ -3,4 +3,3 @@ pub mod SignedWords
 pub mod RaisedWords
 pub mod TwoBytes
 pub mod Buffers
-pub mod Counting

@@ -9,7 +9,6 @@ use lib.Seq.{drop-cons}
 use mir.Syntax.{w8}
 use mir.Val.{Fits}
 use Rattle.slices.specs.Bytes.{bytes_at, raised_at, places_from, filled}
-use Rattle.calculus.proofs.Sequences.{zeros}
 
 -- a part, entry by entry
 module _ (s : List ℕ) (i : ℕ) where
@@ -23,15 +22,21 @@ module _ (s : List ℕ) (i : ℕ) where
 pub two_more : (s : List ℕ) (i j : ℕ) → i + 1 < length s → j ≡ i + 1 + 1 → drop i s ≡ get_or s i 0 ∷ get_or s (i + 1) 0 ∷ drop j s
 two_more s i j l e = rw e (part_more s i (omega arith) ∙ ap (λ (t : List ℕ). get_or s i 0 ∷ t) (part_more s (i + 1) l))
 
--- ---- lists filled up with 0, and places by size
+-- ---- lists filled up with the same, and places by size
 
-pub filled_at : (n : ℕ) (xs : List ℕ) (i : ℕ) → get_or (filled n xs) i 0 ≡ get_or xs i 0
-filled_at n xs i = go (n - length xs) xs i
-  where
-    go : (m : ℕ) (xs : List ℕ) (i : ℕ) → get_or (xs ++ replicate m 0) i 0 ≡ get_or xs i 0
-    go m [] i = zeros m i
-    go m (x ∷ xs) zero = refl
-    go m (x ∷ xs) (suc i) = go m xs i
+module _ {A : Type 0} (d : A) where
+  same_at : (m i : ℕ) → get_or (replicate m d) i d ≡ d
+  same_at zero i = refl
+  same_at (suc m) zero = refl
+  same_at (suc m) (suc i) = same_at m i
+
+  pub filled_at : (n : ℕ) (xs : List A) (i : ℕ) → get_or (filled d n xs) i d ≡ get_or xs i d
+  filled_at n xs i = go (n - length xs) xs i
+    where
+      go : (m : ℕ) (xs : List A) (i : ℕ) → get_or (xs ++ replicate m d) i d ≡ get_or xs i d
+      go m [] i = same_at m i
+      go m (x ∷ xs) zero = refl
+      go m (x ∷ xs) (suc i) = go m xs i
 
 module _ {A : Type 0} (size : A → ℕ) where
   pub places_length : (at : ℕ) (xs : List A) → length (places_from size at xs) ≡ length xs

@@ -1,19 +1,21 @@
 -- Two-byte numbers ascend within bounds where their raised numbers rise: the code keeps the least that may come next.
 use mathlib.Core.Path.{◌≡◌, refl, sym, ap, ap₂, ◌∙◌}
 use mathlib.Core.Bool.{Bool, true, false, ◌&&◌, and-true}
-use mathlib.Core.List.{List, [], ◌∷◌}
-use Prim.Native.Nat.{ℕ, suc, ◌+◌, ◌*◌, ◌<◌, ◌≤◌}
+use mathlib.Core.List.{List, [], ◌∷◌, map}
+use mathlib.Core.Logic.{◌⊎◌, inl, inr}
+use Prim.Native.Nat.{ℕ, zero, suc, ◌+◌, ◌*◌, ◌/◌, ◌<◌, ◌≤◌}
 use native.Mathlib.Omega.{arith}
 use native.Mathlib.Numerals.{add-one}
-use lib.ListN.{length, drop, length-drop}
+use lib.ListN.{length}
 use lib.Dec.{ltb, leb}
 use lib.IntN.{ℤ}
 use lib.Signed.{lt_z}
 use borrow.Author.Tests.{ltb-true, le-leb, leb-true, lt-leb}
+use Rattle.std.specs.Simd.{first_chunks}
 use Rattle.calculus.specs.Lists.{all}
 use Rattle.calculus.specs.Reading.{signed, words, ascending}
 use Rattle.slices.specs.Bytes.{raise, raised_at, raised_words, rises}
-use Rattle.slices.proofs.Parts.{AllBytes, two_more}
+use Rattle.slices.proofs.Parts.{AllBytes}
 use Rattle.slices.proofs.SignedWords.{raised_order}
 
 -- ---- rising numbers, one by one
@@ -26,6 +28,10 @@ module _ (lo hi a : ℕ) (xs : List ℕ) where
   pub too_high : lo ≤ a → hi < a → rises lo hi (a ∷ xs) ≡ false
   unfolding rises
   too_high l h = rw (le-leb lo a l, lt-leb a hi h) refl
+
+  pub out_of_range : (a < lo) ⊎ ((lo ≤ a) × (hi < a)) → rises lo hi (a ∷ xs) ≡ false
+  out_of_range (inl l) = too_low l
+  out_of_range (inr h) = too_high h.0 h.1
 
   pub rises_on : lo ≤ a → a ≤ hi → rises lo hi (a ∷ xs) ≡ rises (a + 1) hi xs
   unfolding rises
@@ -86,27 +92,17 @@ ascending_rises bs known =
     any_number [] = refl
     any_number (z ∷ zs) = any_number zs
 
--- ---- a turn of the loop, and its end
+-- ---- the loop over the pairs of bytes
 
-module _ (bs : List ℕ) (i least hi value : ℕ) (l : 2 * i + 1 < length bs) (e : value ≡ raised_at bs (2 * i)) where
-  -- number i, and those after it
-  more : raised_words (drop (2 * i) bs) ≡ value ∷ raised_words (drop (2 * (i + 1)) bs)
-  unfolding raised_at
-  more = ap raised_words (two_more bs (2 * i) (2 * (i + 1)) l (omega arith)) ∙ ap (λ (v : ℕ). v ∷ raised_words (drop (2 * (i + 1)) bs)) (sym e)
+-- the number of each pair is from `least` on, and all rise up to hi
+abbrev pub pairs_rise : ℕ → ℕ → List (List ℕ) → Bool
+pairs_rise least hi pairs = rises least hi (map (λ p. raised_at p 0) pairs)
 
-  pub word_low : value < least → rises least hi (raised_words (drop (2 * i) bs)) ≡ false
-  word_low h = ap (rises least hi) more ∙ too_low least hi value (raised_words (drop (2 * (i + 1)) bs)) h
-
-  pub word_high : least ≤ value → hi < value → rises least hi (raised_words (drop (2 * i) bs)) ≡ false
-  word_high g h = ap (rises least hi) more ∙ too_high least hi value (raised_words (drop (2 * (i + 1)) bs)) g h
-
-  pub word_on : least ≤ value → value ≤ hi → rises least hi (raised_words (drop (2 * i) bs)) ≡ rises (value + 1) hi (raised_words (drop (2 * (i + 1)) bs))
-  word_on g h = ap (rises least hi) more ∙ rises_on least hi value (raised_words (drop (2 * (i + 1)) bs)) g h
-
-pub words_end : (bs : List ℕ) (i least hi : ℕ) → length bs ≤ 2 * i + 1 → rises least hi (raised_words (drop (2 * i) bs)) ≡ true
-words_end bs i least hi l = go (drop (2 * i) bs) (omega (arith, length-drop (2 * i) bs))
-  where
-    go : (s : List ℕ) → length s ≤ 1 → rises least hi (raised_words s) ≡ true
-    go [] h = rises_end least hi
-    go (a ∷ []) h = rises_end least hi
-    go (a ∷ b ∷ s) h = absurd (omega arith)
+pub words_of_pairs : (n : ℕ) (bs : List ℕ) → length bs / 2 ≡ n → raised_words bs ≡ map (λ p. raised_at p 0) (first_chunks 2 n bs)
+unfolding raised_at
+words_of_pairs zero [] e = refl
+words_of_pairs zero (a ∷ []) e = refl
+words_of_pairs zero (a ∷ b ∷ bs) e = absurd (omega arith)
+words_of_pairs (suc n) [] e = absurd (omega arith)
+words_of_pairs (suc n) (a ∷ []) e = absurd (omega arith)
+words_of_pairs (suc n) (a ∷ b ∷ bs) e = ap (λ (ws : List ℕ). raise (a + 256 * b) ∷ ws) (words_of_pairs n bs (omega arith))

@@ -38,6 +38,6 @@ module _ {A : Type 0} where
   places_from size at [] = []
   places_from size at (x ∷ xs) = at ∷ places_from size (at + size x) xs
 
--- a list of a length, filled up with 0
-abbrev pub filled : ℕ → List ℕ → List ℕ
-filled n xs = xs ++ replicate (n - length xs) 0
+  -- a list of a length, filled up with the same
+  abbrev pub filled : A → ℕ → List A → List A
+  filled x n xs = xs ++ replicate (n - length xs) x

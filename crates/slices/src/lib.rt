@@ -6,6 +6,7 @@ ghost use Rattle.calculus.specs.Limits.{most_terms};
 ghost use Rattle.calculus.specs.Lists.{up_from};
 ghost use Rattle.slices.specs.Bytes.{bytes_at, raised_at, raised_words, rises, put_at};
 
+use std::array;
 use terms::MOST_TERMS;
 
 // Two bytes, low first.
@@ -13,9 +14,7 @@ pub fn word(part: &[u8], at: usize) -> u16
     requires { at + 1 < length part.now }
     ensures { (result ≡ bytes_at part.now at) × (result < 65536) }
 {
-    let lo = part[at] as u16;
-    let hi = part[at + 1] as u16;
-    lo + 256 * hi
+    u16::from_le_bytes([part[at], part[at + 1]])
 }
 
 // Two bytes, low first, 32,768 above their signed value: the order is the same, and there is no sign.
@@ -30,14 +29,10 @@ pub fn raised(part: &[u8], at: usize) -> u32
 pub fn rising(part: &[u8], lo: u32, hi: u32) -> bool
     ensures { result ≡ rises lo hi (raised_words part.now) }
 {
-    let n = part.len() / 2;
     let mut least = lo;
-    for i in 0..n {
-        let value = raised(part, 2 * i);
-        if value < least {
-            return false;
-        }
-        if hi < value {
+    for pair in part.as_chunks::<2>().0 {
+        let value = raised(pair, 0);
+        if value < least || hi < value {
             return false;
         }
         least = value + 1;
@@ -50,18 +45,12 @@ pub fn put(bytes: &[u8], buffer: &mut [u8], at: usize)
     requires { at + length bytes.now ≤ length buffer.old }
     ensures { buffer.new ≡ put_at buffer.old at bytes.now }
 {
-    for k in 0..bytes.len() {
-        buffer[at + k] = bytes[k];
-    }
+    buffer[at..at + bytes.len()].copy_from_slice(bytes);
 }
 
 // The numbers of all terms, upward from 0.
 pub fn term_numbers() -> [u8; MOST_TERMS]
     ensures { result ≡ up_from 0 most_terms }
 {
-    let mut list = [0u8; MOST_TERMS];
-    for t in 0..MOST_TERMS {
-        list[t] = t as u8;
-    }
-    list
+    array::from_fn(|t| t as u8)
 }

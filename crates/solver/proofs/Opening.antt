@@ -1,24 +1,23 @@
 -- What an opened table says of the problem: its terms, constants and sets are within bounds, and every constraint is in range.
-use mathlib.Core.Path.{◌≡◌, refl}
+use mathlib.Core.Path.{refl}
 use mathlib.Core.List.{List}
 use Prim.Native.Nat.{ℕ, ◌<◌, ◌≤◌}
 use native.Mathlib.Omega.{arith}
-use lib.ListN.{length, get_or}
-use Rattle.calculus.specs.Limits.{most_constraints, most_terms}
+use lib.ListN.{length}
+use Rattle.calculus.specs.Limits.{most_terms}
 use Rattle.calculus.specs.Lists.{Each}
-use Rattle.calculus.specs.Terms.{Term, term}
+use Rattle.calculus.specs.Terms.{Term}
 use Rattle.calculus.specs.Invariants.{ConstraintIn}
 use Rattle.calculus.proofs.ConstraintLaws.{constraints_within}
 use Rattle.calculus.proofs.ReadValid.{read_valid}
 use Rattle.calculus.proofs.Sequences.{terms_each}
 use Rattle.problem.specs.declared.Table.{Table}
-use Rattle.problem.specs.Table.{problem_table, Opened, Stands, constraints_of, witness_of}
+use Rattle.problem.specs.Table.{problem_table, Opened, constraints_of}
 use Rattle.problem.proofs.Access.{opened, opened_sizes, constraint_count}
 use Rattle.branch.specs.declared.Branch.{Branch}
 use Rattle.branch.specs.Held.{held, Sound}
 use Rattle.branch.proofs.Restricting.{Among}
-use Rattle.constraints.proofs.Decoding.{stands_there}
-use Rattle.fits.specs.Words.{Lent, Shown}
+use Rattle.fits.specs.Words.{Shown}
 use Rattle.solver.specs.ComesTo.{constants, constraints_in}
 
 module _ (bs : List ℕ) (tab : Table) (o : Opened bs tab) where
@@ -39,14 +38,7 @@ module _ (bs : List ℕ) (tab : Table) (o : Opened bs tab) where
   pub place_there : (i : ℕ) → i < length (constraints_in bs tab) → i < tab.constraints
   place_there i l = omega (arith, constraint_count bs tab o)
 
-  -- a constraint of the problem stands where the table says, and so does its witness
-  pub stands : (i : ℕ) → i < length (constraints_in bs tab) → (i < most_constraints) × Stands bs i (get_or tab.offsets i 0) × (term (get_or tab.witnesses i 0) ≡ witness_of bs i)
-  stands i l = stands_there bs tab i o (place_there i l)
-
 -- a branch of the run, as it is lent to a search
 module _ {cs : List Term} {b : Branch} (s : Sound cs b) where
-  pub lent : Lent b.parents b.rows
-  lent = record { rooted = record { sized = s.good.sized; falls = s.good.falls }; long = s.rowed.rows.long }
-
   pub shows : Shown (held b) b.parents b.rows
   shows = record { parents_are = refl; rows_are = s.rowed.rows }

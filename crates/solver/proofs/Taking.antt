@@ -1,12 +1,12 @@
 -- A step at the place that a search found. It is the branch's next, its children are those of the numbers below `slots_of`, each child is sound, and less remains in it.
 use mathlib.Core.Path.{◌≡◌, refl, sym, ap, ◌∙◌, subst}
-use mathlib.Core.Bool.{Bool, true, false}
+use mathlib.Core.Bool.{Bool, true, false, not, cond}
 use mathlib.Core.Option.{none, some}
 use mathlib.Core.List.{List, [], ◌∷◌, map}
 use Prim.Native.Nat.{ℕ, ◌<◌, ◌≤◌}
 use native.Mathlib.Omega.{arith}
 use lib.ListN.{length, get_or, length-map}
-use borrow.Author.Tests.{eq-eqb, ne_eqb}
+use Rattle.std.specs.Int.{from_bool}
 use Rattle.calculus.specs.Limits.{most_sets, most_terms}
 use Rattle.calculus.specs.Lists.{up_from, picked, Each, Some, here, there}
 use Rattle.calculus.specs.Terms.{term}
@@ -33,31 +33,30 @@ use Rattle.places.proofs.Picking.{picked_among}
 use Rattle.places.proofs.Slots.{children_slots, move_rule, child_fit, propagation_slots}
 use Rattle.places.proofs.Offered.{rule_of}
 use Rattle.search.specs.declared.Found.{Found}
-use Rattle.search.specs.First.{candidate_at, found, first_place_of, spot, Located, Finds}
+use Rattle.search.specs.First.{candidate_at, first_place_of, spot, Located, IsFirst}
 use Rattle.step.specs.declared.Act.{Act}
 use Rattle.step.specs.Acts.{performed, Rooted, Under, OnLowTerms, Placed, Somewhere, Acts}
 use Rattle.step.proofs.Placing.{placed}
 use Rattle.step.proofs.Performing.{performed_rowed}
-use Rattle.solver.specs.ComesTo.{constants, constraints_in, shown, remaining, Settled}
+use Rattle.solver.specs.ComesTo.{constants, constraints_in, shown, remaining}
 use Rattle.constraints.proofs.Decoding.{constraint_in}
 use Rattle.solver.proofs.Opening.{in_range, among, terms_few, place_there}
-use Rattle.solver.proofs.NextLaws.{found_next}
+use Rattle.solver.proofs.NextLaws.{Before, found_next}
 use Rattle.solver.proofs.Working.{fit}
 
 -- what was found is the branch's first place, at position q, and its entries are es
 pub record Taking (bs : List ℕ) (tab : Table) (split : Bool) (b : Branch) (r : Found) (q : ℕ) (es : List ℕ) : Type 0 where
   pub opened : Opened bs tab
   pub sound : Sound (constants bs tab) b
-  pub settled : split ≡ true → Settled bs tab b
-  pub some_rule : ¬ (r.rule ≡ 0)
-  pub first_is : first_place_of split tab.terms (constraints_in bs tab) (held b) ≡ found (constraints_in bs tab) (held b) (spot r q)
+  pub settled : Before tab.terms (constraints_in bs tab) (held b) split
+  pub first_is : first_place_of split tab.terms (constraints_in bs tab) (held b) ≡ some (candidate_at (constraints_in bs tab) (held b) (spot r q))
   pub located : Located split tab.terms (constraints_in bs tab) (held b) r q
-  pub unpacked : Unpacked bs r.number es r.constraint
+  pub unpacked : Unpacked bs r.number es r.instance.constraint
 
 -- its child number k was asserted, with this answer
 pub record Made (bs : List ℕ) (tab : Table) (b : Branch) (r : Found) (q : ℕ) (es : List ℕ) (k : ℕ) (t : Asserted) : Type 0 where
-  pub there : k < slots_of (decoded (map term es) r.constraint) r.rule
-  pub asserts : child_of (constants bs tab) (held b) (decoded (map term es) r.constraint) r.rule q k ≡ result_of t
+  pub there : k < slots_of (decoded (map term es) r.instance.constraint) r.instance.rule
+  pub asserts : child_of (constants bs tab) (held b) (decoded (map term es) r.instance.constraint) r.instance.rule q k ≡ result_of t
   pub rowed : Rowed (constants bs tab) t.branch
 
 some_map : (f : calculus.Branch → calculus.Branch) (d : calculus.Branch) (cs : List calculus.Branch) → Some (λ x. x ≡ d) cs → Some (λ x. x ≡ f d) (map f cs)
@@ -70,10 +69,10 @@ each_unit (c ∷ cs) = (tt, each_unit cs)
 
 module _ {bs : List ℕ} {tab : Table} {split : Bool} {b : Branch} {r : Found} {q : ℕ} {es : List ℕ} (s : Taking bs tab split b r q es) where
   abbrev this : Constraint
-  this = decoded (map term es) r.constraint
+  this = decoded (map term es) r.instance.constraint
 
   abbrev kids : List calculus.Branch
-  kids = picked (child_of (constants bs tab) (held b) this r.rule q) (up_from 0 (slots_of this r.rule))
+  kids = picked (child_of (constants bs tab) (held b) this r.instance.rule q) (up_from 0 (slots_of this r.instance.rule))
 
   abbrev chosen : Candidate
   chosen = candidate_at (constraints_in bs tab) (held b) (spot r q)
@@ -83,59 +82,56 @@ module _ {bs : List ℕ} {tab : Table} {split : Bool} {b : Branch} {r : Found} {
   unfolding constraint_of
   here_is = s.unpacked.is
 
-  pub ruled : RuleOf this r.rule
-  ruled = rule_of split this r.rule (subst (λ (x : Constraint). InSpan (span_of split x) r.rule) here_is s.located.within.of_rule)
+  pub ruled : RuleOf this r.instance.rule
+  ruled = rule_of split this r.instance.rule (subst (λ (x : Constraint). InSpan (span_of split x) r.instance.rule) here_is s.located.within.of_rule)
 
-  entry_there : r.rule ≡ 19 → q < length (entries_of this)
+  entry_there : r.instance.rule ≡ 19 → q < length (entries_of this)
   entry_there e = subst (λ (x : Constraint). q < length (entries_of x)) here_is (s.located.within.of_entry e)
 
-  entry_listed : r.rule ≡ 19 → q < length es
+  entry_listed : r.instance.rule ≡ 19 → q < length es
   entry_listed e = omega (arith, entry_there e, ap length s.unpacked.handled.entries_are, length-map es term)
 
-  low : r.root.0 < most_terms
+  low : r.instance.root.0 < most_terms
   low = omega (arith, s.located.low, terms_few bs tab s.opened)
 
   -- its terms, and the root concerned, are the problem's
   pub in_terms : ConstraintIn tab.terms most_sets this
   in_terms = subst (ConstraintIn tab.terms most_sets) s.unpacked.is (constraint_in bs tab r.number s.opened (place_there bs tab s.opened r.number s.located.within.in_problem) tab.terms 8 (omega arith) (opened_sizes bs tab s.opened).1)
 
-  pub low_act : (a : Act) → OnLowTerms r.constraint es r.root.0 a → Under tab.terms a
+  pub low_act : (a : Act) → OnLowTerms r.instance es a → Under tab.terms a
   low_act a l = l tab.terms in_terms s.located.low
 
   -- it is a place of a step
-  pub is_placed : Placed b.parents es r.constraint r.rule q r.root.0
-  is_placed = placed (held b) r.rule q es r.constraint r.root.0 s.unpacked.handled ruled entry_listed low (subst (λ (x : Constraint). (move_at (held b) x r.rule q).0 ≡ term r.root.0) here_is s.located.concerns)
-
-  found_is : first_place_of split tab.terms (constraints_in bs tab) (held b) ≡ some chosen
-  found_is = s.first_is ∙ rw (ne_eqb r.rule 0 s.some_rule) refl
+  pub is_placed : Placed b.parents es r.instance.constraint r.instance.rule q r.instance.root.0
+  is_placed = placed (held b) r.instance.rule q es r.instance.constraint r.instance.root.0 s.unpacked.handled ruled entry_listed low (subst (λ (x : Constraint). (move_at (held b) x r.instance.rule q).0 ≡ term r.instance.root.0) here_is s.located.concerns)
 
   -- the rule applies there
-  pub applying : applies (calculus.known (held b)) (move_at (held b) this r.rule q).1 ≡ true
+  pub applying : applies (calculus.known (held b)) (move_at (held b) this r.instance.rule q).1 ≡ true
   unfolding first_place_of
-  applying = subst (λ (x : Constraint). applies (calculus.known (held b)) (move_at (held b) x r.rule q).1 ≡ true) here_is
-      (first_some (λ (_ : Candidate). Unit {0}) (λ (c : Candidate). applies (calculus.known (held b)) c.move) (candidates (offers split tab.terms (held b)) 0 (constraints_in bs tab)) chosen (each_unit (candidates (offers split tab.terms (held b)) 0 (constraints_in bs tab))) found_is).1
+  applying = subst (λ (x : Constraint). applies (calculus.known (held b)) (move_at (held b) x r.instance.rule q).1 ≡ true) here_is
+      (first_some (λ (_ : Candidate). Unit {0}) (λ (c : Candidate). applies (calculus.known (held b)) c.move) (candidates (offers split tab.terms (held b)) 0 (constraints_in bs tab)) chosen (each_unit (candidates (offers split tab.terms (held b)) 0 (constraints_in bs tab))) s.first_is).1
 
   -- it is what is done next
-  pub stepped : next tab.terms (constants bs tab) (constraints_in bs tab) (shown bs tab b) ≡ step (r.rule ∷ r.number ∷ r.root.0 ∷ length kids ∷ []) (map (restrict tab.terms) kids)
+  pub stepped : next tab.terms (constants bs tab) (constraints_in bs tab) (shown bs tab b) ≡ step (r.instance.rule ∷ r.number ∷ r.instance.root.0 ∷ length kids ∷ []) (map (restrict tab.terms) kids)
   stepped =
-      let e = found_next tab.terms tab.sets (constants bs tab) (constraints_in bs tab) (in_range bs tab s.opened) (among bs tab s.opened) (held b) s.sound.good.falls split chosen s.settled found_is in
+      let e = found_next tab.terms tab.sets (constants bs tab) (constraints_in bs tab) (in_range bs tab s.opened) (among bs tab s.opened) (held b) s.sound.good.falls split chosen s.settled s.first_is in
       let f = rw (s.located.concerns, here_is) at e in
-      rw (sym (children_slots (constants bs tab) (held b) this r.rule q ruled)) (f ∙ rw (move_rule (held b) q this r.rule ruled) refl)
+      rw (sym (children_slots (constants bs tab) (held b) this r.instance.rule q ruled)) (f ∙ rw (move_rule (held b) q this r.instance.rule ruled) refl)
 
   -- ---- child k
 
   module _ {k : ℕ} {t : Asserted} (m : Made bs tab b r q es k t) where
-    pub refused : t.conflict ≡ true → child_of (constants bs tab) (held b) this r.rule q k ≡ none
-    refused e = refusing (child_of (constants bs tab) (held b) this r.rule q k) t m.asserts e
+    pub refused : t.conflict ≡ true → child_of (constants bs tab) (held b) this r.instance.rule q k ≡ none
+    refused e = refusing (child_of (constants bs tab) (held b) this r.instance.rule q k) t m.asserts e
 
     module _ (e : t.conflict ≡ false) where
-      pub given : child_of (constants bs tab) (held b) this r.rule q k ≡ some (held t.branch)
-      given = answered (child_of (constants bs tab) (held b) this r.rule q k) t m.asserts e
+      pub given : child_of (constants bs tab) (held b) this r.instance.rule q k ≡ some (held t.branch)
+      given = answered (child_of (constants bs tab) (held b) this r.instance.rule q k) t m.asserts e
 
       pub child_sound : Sound (constants bs tab) t.branch
       child_sound = record {
-        good = child_fit most_terms most_sets (constants bs tab) (held b) this r.rule q k (held t.branch) s.sound.good s.unpacked.handled.in_range ruled entry_there
-            (λ n. (subst (λ (x : Constraint). (q < most_terms) × ((move_at (held b) x r.rule q).0 ≡ term q)) here_is (s.located.within.of_root n)).0) m.there given;
+        good = child_fit most_terms most_sets (constants bs tab) (held b) this r.instance.rule q k (held t.branch) s.sound.good s.unpacked.handled.in_range ruled entry_there
+            (λ n. (subst (λ (x : Constraint). (q < most_terms) × ((move_at (held b) x r.instance.rule q).0 ≡ term q)) here_is (s.located.within.of_root n)).0) m.there given;
         rowed = m.rowed;
       }
 
@@ -144,11 +140,11 @@ module _ {bs : List ℕ} {tab : Table} {split : Bool} {b : Branch} {r : Found} {
       child_less =
           (some_each (λ d. WellFormed tab.terms (constants bs tab) d × (measure tab.terms tab.sets d < measure tab.terms tab.sets (shown bs tab b))) (shown bs tab t.branch)
           (map (restrict tab.terms) kids)
-          (step_fit tab.terms (constants bs tab) tab.sets (constraints_in bs tab) (in_range bs tab s.opened) (shown bs tab b) (fit bs tab s.opened 0 b s.sound.good) (r.rule ∷ r.number ∷ r.root.0 ∷ length kids ∷ []) (map (restrict tab.terms) kids) stepped)
-          (some_map (restrict tab.terms) (held t.branch) kids (picked_among (child_of (constants bs tab) (held b) this r.rule q) k (held t.branch) given 0 (slots_of this r.rule) (omega arith) (omega (arith, m.there))))).1
+          (step_fit tab.terms (constants bs tab) tab.sets (constraints_in bs tab) (in_range bs tab s.opened) (shown bs tab b) (fit bs tab s.opened 0 b s.sound.good) (r.instance.rule ∷ r.number ∷ r.instance.root.0 ∷ length kids ∷ []) (map (restrict tab.terms) kids) stepped)
+          (some_map (restrict tab.terms) (held t.branch) kids (picked_among (child_of (constants bs tab) (held b) this r.instance.rule q) k (held t.branch) given 0 (slots_of this r.instance.rule) (omega arith) (omega (arith, m.there))))).1
 
   -- an act on roots that asserts child k, performed, makes it
-  pub acted : {k : ℕ} {t : Asserted} (a : Act) → k < slots_of this r.rule → Rooted b.parents a → child_of (constants bs tab) (held b) this r.rule q k ≡ result_of (performed b a) → t ≡ performed b a → Made bs tab b r q es k t
+  pub acted : {k : ℕ} {t : Asserted} (a : Act) → k < slots_of this r.instance.rule → Rooted b.parents a → child_of (constants bs tab) (held b) this r.instance.rule q k ≡ result_of (performed b a) → t ≡ performed b a → Made bs tab b r q es k t
   acted a lt o c e = record {
     there = lt;
     asserts = c ∙ ap result_of (sym e);
@@ -161,21 +157,16 @@ by_arm b e f g h = rw (g, h) (f ∙ ap (performed b) (sym e))
 
 -- ---- what a search answers
 
-module _ {bs : List ℕ} {tab : Table} {split : Bool} {b : Branch} {r : Found} (o : Opened bs tab) (sound : Sound (constants bs tab) b) (f : Finds split tab.terms (constraints_in bs tab) (held b) r) where
-  pub none_found : r.rule ≡ 0 → first_place_of split tab.terms (constraints_in bs tab) (held b) ≡ none
-  none_found z = f.first_is ∙ rw (eq-eqb r.rule 0 z) refl
-
-  pub taking : (split ≡ true → Settled bs tab b) → (n : ¬ (r.rule ≡ 0)) → Taking bs tab split b r f.position (f.there n).entries
-  unfolding constraint_of
-  taking e n = record {
-    opened = o;
-    sound = sound;
-    settled = e;
-    some_rule = n;
-    first_is = f.first_is;
-    located = f.there n;
-    unpacked = record { is = (f.there n).opened; handled = (f.there n).handled };
-  }
+pub taking : {bs : List ℕ} {tab : Table} {split : Bool} {b : Branch} {r : Found} → Opened bs tab → Sound (constants bs tab) b → Before tab.terms (constraints_in bs tab) (held b) split → (f : IsFirst split tab.terms (constraints_in bs tab) (held b) r) → Taking bs tab split b r f.position f.located.entries
+unfolding constraint_of
+taking o sound e f = record {
+  opened = o;
+  sound = sound;
+  settled = e;
+  first_is = f.first_is;
+  located = f.located;
+  unpacked = record { is = f.located.opened; handled = f.located.handled };
+}
 
 -- ---- a propagation step has one child, or none
 
@@ -194,26 +185,31 @@ span_end (exactly A es) = omega arith
 span_end (interval A i j es) = omega arith
 
 module _ {bs : List ℕ} {tab : Table} {b : Branch} {r : Found} {q : ℕ} {es : List ℕ} (s : Taking bs tab false b r q es) where
-  pub single : slots_of (decoded (map term es) r.constraint) r.rule ≡ 1
-  single = propagation_slots (decoded (map term es) r.constraint) r.rule (subst (λ (x : Constraint). InSpan (propagation_span x) r.rule) (here_is s) s.located.within.of_rule)
+  pub single : slots_of (decoded (map term es) r.instance.constraint) r.instance.rule ≡ 1
+  single = propagation_slots (decoded (map term es) r.instance.constraint) r.instance.rule (subst (λ (x : Constraint). InSpan (propagation_span x) r.instance.rule) (here_is s) s.located.within.of_rule)
 
-  pub not_20 : ¬ (r.rule ≡ 20)
+  pub not_20 : ¬ (r.instance.rule ≡ 20)
   not_20 e = omega (arith, s.located.within.of_rule.1, span_end (get_or (constraints_in bs tab) r.number no_constraint))
 
   -- child 0 is there
-  pub first_there : 0 < slots_of (decoded (map term es) r.constraint) r.rule
+  pub first_there : 0 < slots_of (decoded (map term es) r.instance.constraint) r.instance.rule
   first_there = omega (arith, single)
 
-  pub somewhere : Somewhere b.parents r.constraint r.rule r.root.0 0
+  pub somewhere : Somewhere b.parents r.instance.constraint r.instance.rule r.instance.root.0 0
   somewhere = (es, q, is_placed s, first_there)
 
   module _ {t : Asserted} (m : Made bs tab b r q es 0 t) where
-    pub closing : t.conflict ≡ true → next tab.terms (constants bs tab) (constraints_in bs tab) (shown bs tab b) ≡ step (r.rule ∷ r.number ∷ r.root.0 ∷ 0 ∷ []) []
+    pub closing : t.conflict ≡ true → next tab.terms (constants bs tab) (constraints_in bs tab) (shown bs tab b) ≡ step (r.instance.rule ∷ r.number ∷ r.instance.root.0 ∷ 0 ∷ []) []
     closing e = stepped s ∙ rw (single, refused s m e, picked) refl
 
-    pub going : t.conflict ≡ false → next tab.terms (constants bs tab) (constraints_in bs tab) (shown bs tab b) ≡ step (r.rule ∷ r.number ∷ r.root.0 ∷ 1 ∷ []) (shown bs tab t.branch ∷ [])
+    pub going : t.conflict ≡ false → next tab.terms (constants bs tab) (constraints_in bs tab) (shown bs tab b) ≡ step (r.instance.rule ∷ r.number ∷ r.instance.root.0 ∷ 1 ∷ []) (shown bs tab t.branch ∷ [])
     going e = stepped s ∙ rw (single, given s m e, picked) refl
 
+    -- whether it closes or not
+    pub told : (x : Bool) → t.conflict ≡ x → next tab.terms (constants bs tab) (constraints_in bs tab) (shown bs tab b) ≡ step (r.instance.rule ∷ r.number ∷ r.instance.root.0 ∷ from_bool (not x) ∷ []) (cond x [] (shown bs tab t.branch ∷ []))
+    told true e = closing e
+    told false e = going e
+
   -- what it asserts is known by its act
-  pub inferred : {a : Act} {t : Asserted} → Acts b.parents (decoded (map term es) r.constraint) r.rule q 0 a → t ≡ performed b a → Made bs tab b r q es 0 t
+  pub inferred : {a : Act} {t : Asserted} → Acts b.parents (decoded (map term es) r.instance.constraint) r.instance.rule q 0 a → t ≡ performed b a → Made bs tab b r q es 0 t
   inferred {a} d e = acted s a first_there d.rooted (d.asserts (constants bs tab) b refl s.sound.good s.sound.rowed.fixed) e

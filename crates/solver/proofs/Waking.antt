@@ -1,7 +1,8 @@
 -- Which constraints a search looks at. A search narrows the masks to what is left to look at, and an act widens them by what it wakes.
 use mathlib.Core.Path.{◌≡◌, refl, sym, ap, ◌∙◌, subst}
 use mathlib.Core.Bool.{Bool, true, false, ◌&&◌, ◌||◌, true≢false, false≢true}
-use mathlib.Core.List.{List}
+use mathlib.Core.Option.{none}
+use mathlib.Core.List.{List, [], ◌∷◌, map}
 use Prim.Native.Nat.{ℕ, zero, suc, ◌+◌, ◌-◌, ◌^◌, ◌<◌, ◌≤◌}
 use native.Mathlib.Omega.{arith}
 use native.Mathlib.Decide.{ℕ_discrete}
@@ -10,13 +11,20 @@ use lib.Dec.{ltb}
 use lib.Bits.{bit_or}
 use borrow.Author.Tests.{lt-ltb, ltb-true}
 use Rattle.calculus.specs.Limits.{most_sets}
-use Rattle.calculus.specs.Lists.{up_from, any, bit}
+use Rattle.calculus.specs.Lists.{up_from, any, bit, Each}
 use Rattle.calculus.specs.Terms.{Term}
 use Rattle.calculus.specs.Meaning.{Constraint}
-use Rattle.calculus.proofs.Bools.{and_r, or_r}
+use Rattle.calculus.proofs.Bools.{and_r, or_r, first_none, each_left, each_right, map_each, gather_of_each}
+use Rattle.calculus.specs.Relations.{applies}
+use Rattle.calculus.specs.Branch as calculus
+use Rattle.calculus.specs.Search.{Move, Candidate, candidates}
+use Rattle.calculus.proofs.Masks.{bit_zero}
+use Rattle.calculus.proofs.SearchLaws.{none_found}
+use Rattle.calculus.proofs.Sequences.{up_at}
+use Rattle.places.specs.Places.{move_at, positions, offers}
+use Rattle.places.proofs.Offered.{offered}
 use Rattle.problem.specs.declared.Table.{Table}
-use Rattle.problem.specs.declared.Totals.{Totals}
-use Rattle.problem.specs.Table.{Opened, table_by, constraint_of}
+use Rattle.problem.specs.Table.{Opened, constraint_of, no_constraint}
 use Rattle.problem.proofs.Access.{opened_sizes, constraint_count}
 use Rattle.bits.proofs.Bits.{bit_of_or, bit_ones}
 use Rattle.branch.specs.declared.Branch.{Branch}
@@ -25,27 +33,14 @@ use Rattle.branch.specs.Held.{held, Sound}
 use Rattle.branch.specs.Rows.{literals, literal_count}
 use Rattle.branch.proofs.Roots.{root_is}
 use Rattle.constraints.proofs.Decoding.{constraint_in}
-use Rattle.quiet.specs.Quiet.{Quiet, mark_word, pair_mark}
+use Rattle.quiet.specs.Quiet.{Idle, Quiet, WordsOf, mark_word, pair_mark}
 use Rattle.quiet.proofs.Waking.{Watched, quiet_noted, quiet_merged}
 use Rattle.search.specs.declared.Found.{Found}
-use Rattle.search.specs.First.{Prepared, Finds}
+use Rattle.search.specs.First.{first_place_of, IsFirst}
 use Rattle.step.specs.declared.Act.{Act}
 use Rattle.step.specs.declared.Act.TheVariants.{Note, Merge, Close}
 use Rattle.step.specs.Acts.{performed, Rooted, Under}
-use Rattle.solver.specs.ComesTo.{constants, constraints_in, Wakes, Ready}
-
--- ---- what is prepared is what is watched
-
-watched : {bs numbers : List ℕ} {t : Totals} {offsets witnesses words : List ℕ} → Prepared bs numbers t offsets witnesses words → Watched t.terms (constraints_in bs (table_by t offsets witnesses)) words
-unfolding constraint_of
-watched {bs} {t = t} {offsets} {witnesses} p =
-    let o = p.tabled.opened in
-    let tab : Table = table_by t offsets witnesses in
-    record {
-      words_are = p.words_are;
-      in_range = λ i l. constraint_in bs tab i o (omega (arith, constraint_count bs tab o)) t.terms most_sets (omega arith) (opened_sizes bs tab o).1;
-      few = (opened_sizes bs tab o).2;
-    }
+use Rattle.solver.specs.ComesTo.{constants, constraints_in, Wakes, Settled, Ready}
 
 -- ---- a mask that is widened
 
@@ -108,32 +103,56 @@ all_ready {bs} {tab} {all = all} o s e = record { sound = s; propagation = λ i 
     low : (i : ℕ) → bit all i ≡ true → i < tab.constraints
     low i z = ltb-true i tab.constraints (sym (bits i) ∙ z)
 
+-- ---- where nothing applies every constraint is idle
+
+candidates_at : (f : Constraint → List (Term × Move)) (P : Move → Type 0) (ls : List Constraint) (i : ℕ) → Each (λ (c : Candidate). P c.move) (candidates f i ls) → (k : ℕ) → k < length ls → Each (λ (m : Term × Move). P m.1) (f (get_or ls k no_constraint))
+candidates_at f P [] i e k l = absurd (omega arith)
+candidates_at f P (c ∷ cs) i e zero l = map_each (λ (x : Candidate). P x.move) (λ (m : Term × Move). record { constraint = i; concerned = m.0; move = m.1 }) (f c) (each_left (λ (x : Candidate). P x.move) _ _ e)
+candidates_at f P (c ∷ cs) i e (suc k) l = candidates_at f P cs (suc i) (each_right (λ (x : Candidate). P x.move) (map (λ (m : Term × Move). record { constraint = i; concerned = m.0; move = m.1 }) (f c)) _ e) k (omega arith)
+
+all_idle : (split : Bool) (n : ℕ) (ls : List Constraint) (b : calculus.Branch) → first_place_of split n ls b ≡ none → (i : ℕ) → i < length ls → Idle split n b (get_or ls i no_constraint)
+unfolding first_place_of
+all_idle split n ls b e i l j r =
+    let c : Constraint = get_or ls i no_constraint in
+    let P : Move → Type 0 = λ m. applies (calculus.known b) m ≡ false in
+    let f = candidates_at (offers split n b) P ls 0 (first_none (λ (x : Candidate). applies (calculus.known b) x.move) (candidates (offers split n b) 0 ls) e) i l in
+    let g = gather_of_each (λ (m : Term × Move). P m.1) (λ (k : ℕ). map (move_at b c k) (positions n b c k)) _ (subst (Each (λ (m : Term × Move). P m.1)) (offered split n b c) f) in
+    none_found (λ (p : ℕ). applies (calculus.known b) (move_at b c j p).1) (positions n b c j)
+    (map_each (λ (m : Term × Move). P m.1) (move_at b c j) (positions n b c j) (up_at (λ (k : ℕ). Each (λ (m : Term × Move). P m.1) (map (move_at b c k) (positions n b c k))) _ _ g j r.0 (omega (arith, r.0, r.1))))
+
 -- ---- the masks of a branch
 
-module _ {bs numbers : List ℕ} {t : Totals} {offsets witnesses words : List ℕ} (p : Prepared bs numbers t offsets witnesses words) {b : Branch} {wake ripe : ℕ} (y : Ready bs (table_by t offsets witnesses) b wake ripe) where
-  abbrev tab : Table
-  tab = table_by t offsets witnesses
+module _ {bs : List ℕ} {tab : Table} (o : Opened bs tab) {b : Branch} {wake ripe : ℕ} (y : Ready bs tab b wake ripe) where
+  counted : {i : ℕ} → i < length (constraints_in bs tab) → i < tab.constraints
+  counted l = omega (arith, constraint_count bs tab o)
 
-  counted : {i : ℕ} → i < length (constraints_in bs tab) → i < t.constraints
-  counted l = omega (arith, constraint_count bs tab p.tabled.opened)
-
-  -- after a search for propagation rules, and after one for splits
-  pub narrowed : {r : Found} → Finds false t.terms (constraints_in bs tab) (held b) r → Ready bs tab b r.left ripe
+  -- after a search for propagation rules, whether it finds one or none, and after one for splits
+  pub narrowed : {r : Found} → IsFirst false tab.terms (constraints_in bs tab) (held b) r → Ready bs tab b r.left ripe
   narrowed f = record { sound = y.sound; propagation = f.quiet; splits = y.splits; wake_low = λ i e. counted (f.low i e); ripe_low = y.ripe_low }
 
-  -- a search for propagation rules that finds none
-  pub quieted : {r : Found} → Finds false t.terms (constraints_in bs tab) (held b) r → r.rule ≡ 0 → Ready bs tab b 0 ripe
-  quieted f z = subst (λ (k : ℕ). Ready bs tab b k ripe) (ap (λ (x : Found). x.left) (f.none z)) (narrowed f)
+  pub quieted : Settled bs tab b → Ready bs tab b 0 ripe
+  quieted e = record {
+    sound = y.sound;
+    propagation = λ i l z. all_idle false tab.terms (constraints_in bs tab) (held b) e i l;
+    splits = y.splits;
+    wake_low = λ i z. absurd (false≢true (sym (bit_zero i) ∙ z));
+    ripe_low = y.ripe_low;
+  }
 
-  pub narrowed_splits : {r : Found} → Finds true t.terms (constraints_in bs tab) (held b) r → Ready bs tab b wake r.left
+  pub narrowed_splits : {r : Found} → IsFirst true tab.terms (constraints_in bs tab) (held b) r → Ready bs tab b wake r.left
   narrowed_splits f = record { sound = y.sound; propagation = y.propagation; splits = f.quiet; wake_low = y.wake_low; ripe_low = λ i e. counted (f.low i e) }
 
   -- after an act
-  pub widened : {c : Asserted} (a : Act) (w : ℕ) → Rooted b.parents a → Under t.terms a → Wakes words a w → c ≡ performed b a → Sound (constants bs tab) c.branch → Ready bs tab c.branch (bit_or wake w) (bit_or ripe w)
-  widened {c} a w r u k e s = record {
-    sound = s;
-    propagation = subst (λ (x : Asserted). Quiet false t.terms (constraints_in bs tab) (held x.branch) (bit_or wake w)) (sym e) (act_quiet (watched p) false wake w y.sound a r u k y.propagation);
-    splits = subst (λ (x : Asserted). Quiet true t.terms (constraints_in bs tab) (held x.branch) (bit_or ripe w)) (sym e) (act_quiet (watched p) true ripe w y.sound a r u k y.splits);
-    wake_low = λ i. both_low wake w i (y.wake_low i) (λ x. counted (woken_low (watched p) a w k i x));
-    ripe_low = λ i. both_low ripe w i (y.ripe_low i) (λ x. counted (woken_low (watched p) a w k i x));
-  }
+  module _ {words : List ℕ} (k : WordsOf (constraints_in bs tab) words) where
+    watched : Watched tab.terms (constraints_in bs tab) words
+    unfolding constraint_of
+    watched = record { words_are = k; in_range = λ i l. constraint_in bs tab i o (counted l) tab.terms most_sets (omega arith) (opened_sizes bs tab o).1; few = (opened_sizes bs tab o).2 }
+
+    pub widened : {c : Asserted} (a : Act) (w : ℕ) → Rooted b.parents a → Under tab.terms a → Wakes words a w → c ≡ performed b a → Sound (constants bs tab) c.branch → Ready bs tab c.branch (bit_or wake w) (bit_or ripe w)
+    widened {c} a w r u x e s = record {
+      sound = s;
+      propagation = subst (λ (x : Asserted). Quiet false tab.terms (constraints_in bs tab) (held x.branch) (bit_or wake w)) (sym e) (act_quiet watched false wake w y.sound a r u x y.propagation);
+      splits = subst (λ (x : Asserted). Quiet true tab.terms (constraints_in bs tab) (held x.branch) (bit_or ripe w)) (sym e) (act_quiet watched true ripe w y.sound a r u x y.splits);
+      wake_low = λ i. both_low wake w i (y.wake_low i) (λ z. counted (woken_low watched a w x i z));
+      ripe_low = λ i. both_low ripe w i (y.ripe_low i) (λ z. counted (woken_low watched a w x i z));
+    }

@@ -4,13 +4,12 @@ use mathlib.Core.Option.{Option, none, some}
 use mathlib.Core.List.{List, [], ◌∷◌, map, append-nil}
 use Prim.Native.Nat.{ℕ, zero, suc, ◌-◌, ◌<◌, ◌≤◌}
 use native.Mathlib.Omega.{arith}
-use borrow.Author.Tests.{eq-eqb}
 use Rattle.calculus.specs.Limits.{most_terms}
 use Rattle.calculus.specs.Lists.{up_from, gather, picked}
 use Rattle.calculus.specs.Meaning.{Constraint}
 use Rattle.calculus.specs.Branch as calculus
 use Rattle.calculus.specs.Search.{Next, solved, step, next}
-use Rattle.calculus.specs.Run.{formed, stepped, log}
+use Rattle.calculus.specs.Run.{formed, stepped, log, DONE}
 use Rattle.calculus.specs.Forms.{record_of}
 use Rattle.calculus.specs.Invariants.{WellFormed}
 use Rattle.calculus.proofs.LogLaws.{at_zero}
@@ -20,8 +19,9 @@ use Rattle.branch.specs.declared.Branch.{Branch}
 use Rattle.branch.specs.Held.{held, restrict, Good}
 use Rattle.branch.proofs.Restricting.{restrict_record, restrict_fit}
 use Rattle.places.specs.Alternatives.{slots_of, child_of}
-use Rattle.records.specs.State.{State, state, counts_of, with_form, with_step, event, play}
-use Rattle.records.proofs.FormWriting.{noted_not}
+use Rattle.records.specs.declared.Counts.{Counts}
+use Rattle.records.specs.declared.Stop.{Stop}
+use Rattle.records.specs.State.{State, state, stopped, with_form, with_step, play}
 use Rattle.records.proofs.Playing.{play_append, play_stopped}
 use Rattle.solver.specs.ComesTo.{constants, constraints_in, shown, remaining, events, ComesTo, Leads, children_from, ChildrenComeTo}
 use Rattle.solver.proofs.Opening.{in_range, among, terms_few}
@@ -52,13 +52,13 @@ module _ (bs : List ℕ) (tab : Table) (o : Opened bs tab) (budget : ℕ) (b : B
   step_events : (fuel : ℕ) (r : List ℕ) (cs : List calculus.Branch) → next_is (step r cs) → events bs tab (suc fuel) this ≡ stepped r ∷ gather (events bs tab fuel) cs
   step_events fuel r cs e = rw (e, log)
 
-  module _ (s : State) (on : s.counts.stop ≡ 0) where
+  module _ (c : Counts) (F T : List ℕ) where
+    abbrev s : State
+    s = state c DONE F T
+
     pub solved_outcome : next_is solved → ComesTo bs tab budget b s (with_form tab.terms (record_of tab.terms (held b)) s)
     unfolding ComesTo
-    solved_outcome e fuel l = rw (solved_events fuel e, eq-eqb s.counts.stop 0 on, restrict_record tab.terms (held b) good.falls) refl
-
-    stepping : (r : List ℕ) → event tab.terms budget s (stepped r) ≡ with_step budget r s
-    stepping r = rw (eq-eqb s.counts.stop 0 on) refl
+    solved_outcome e fuel l = rw (solved_events fuel e, restrict_record tab.terms (held b) good.falls) refl
 
     -- a step is noted, and its children are worked
     pub step_outcome : (r : List ℕ) (cs : List calculus.Branch) → next_is (step r cs) → (t : State)
@@ -66,25 +66,19 @@ module _ (bs : List ℕ) (tab : Table) (o : Opened bs tab) (budget : ℕ) (b : B
     unfolding ComesTo
     step_outcome r cs e t f zero l = absurd (some_left r cs e l)
     step_outcome r cs e t f (suc fuel) l =
-        f fuel l ∙ sym (ap (play tab.terms budget s) (step_events fuel r cs e) ∙ ap (λ (x : State). play tab.terms budget x (gather (events bs tab fuel) cs)) (stepping r))
+        f fuel l ∙ sym (ap (play tab.terms budget s) (step_events fuel r cs e))
 
     pub closed_outcome : (r : List ℕ) → next_is (step r []) → ComesTo bs tab budget b s (with_step budget r s)
     closed_outcome r e = step_outcome r [] e (with_step budget r s) (λ fuel l. refl)
 
-    pub spent_outcome : (r : List ℕ) (cs : List calculus.Branch) → next_is (step r cs) → s.counts.steps ≡ budget
-        → ComesTo bs tab budget b s (state (counts_of s.counts.steps s.counts.forms 1) s.forms s.trace)
-    spent_outcome r cs e q = step_outcome r cs e (state (counts_of s.counts.steps s.counts.forms 1) s.forms s.trace) (λ fuel l. stays fuel)
-      where
-        spent : with_step budget r s ≡ state (counts_of s.counts.steps s.counts.forms 1) s.forms s.trace
-        spent = noted_not budget r s q
-
-        stays : (fuel : ℕ) → state (counts_of s.counts.steps s.counts.forms 1) s.forms s.trace ≡ play tab.terms budget (with_step budget r s) (gather (events bs tab fuel) cs)
-        stays fuel = rw spent (sym (play_stopped tab.terms budget (state (counts_of s.counts.steps s.counts.forms 1) s.forms s.trace) (λ (z : ◌≡◌ {A = ℕ} 1 0). absurd (omega arith)) (gather (events bs tab fuel) cs)))
+    -- a step that is not taken stops the run
+    pub step_stops : (r : List ℕ) (cs : List calculus.Branch) → next_is (step r cs) → (d : Counts) (w : Stop) (G U : List ℕ) → state d (stopped w) G U ≡ with_step budget r s → ComesTo bs tab budget b s (state d (stopped w) G U)
+    step_stops r cs e d w G U q = step_outcome r cs e (state d (stopped w) G U) (λ fuel l. rw (← q) (sym (play_stopped tab.terms budget d w G U (gather (events bs tab fuel) cs))))
 
     -- a step with one child leads to it
-    pub step_leads : (r : List ℕ) (c : Branch) → next_is (step r (shown bs tab c ∷ [])) → remaining bs tab c < remaining bs tab b → Leads bs tab budget b s c (with_step budget r s)
+    pub step_leads : (r : List ℕ) (a : Branch) → next_is (step r (shown bs tab a ∷ [])) → remaining bs tab a < remaining bs tab b → Leads bs tab budget b s a (with_step budget r s)
     unfolding Leads ComesTo
-    step_leads r c e l t f = step_outcome r (shown bs tab c ∷ []) e t (λ fuel h. f fuel (omega arith) ∙ ap (play tab.terms budget (with_step budget r s)) (sym (append-nil (events bs tab fuel (shown bs tab c)))))
+    step_leads r a e l t f = step_outcome r (shown bs tab a ∷ []) e t (λ fuel h. f fuel (omega arith) ∙ ap (play tab.terms budget (with_step budget r s)) (sym (append-nil (events bs tab fuel (shown bs tab a)))))
 
     -- a split leads to its children
     pub split_outcome : (l : Constraint) (j p : ℕ) (r : List ℕ) → next_is (step r (children_from bs tab b l j p 0)) → (t : State) → ChildrenComeTo bs tab budget b l j p 0 (with_step budget r s) t → ComesTo bs tab budget b s t
@@ -122,6 +116,6 @@ module _ (bs : List ℕ) (tab : Table) (budget : ℕ) (b : Branch) (l : Constrai
     unfolding ChildrenComeTo
     children_next u f fuel r = f fuel r ∙ sym (first_played fuel r)
 
-    pub children_stop : (t.counts.stop ≡ 0 → ⊥) → ChildrenComeTo bs tab budget b l j p k s t
-    unfolding ChildrenComeTo
-    children_stop n fuel r = sym (first_played fuel r ∙ play_stopped tab.terms budget t n (gather (events bs tab fuel) (children_from bs tab b l j p (suc k))))
+  pub children_stop : (c : Branch) (h : k < slots_of l j) (e : here ≡ some (held c)) (fall : remaining bs tab c < remaining bs tab b) (d : Counts) (w : Stop) (G U : List ℕ) → ComesTo bs tab budget c s (state d (stopped w) G U) → ChildrenComeTo bs tab budget b l j p k s (state d (stopped w) G U)
+  unfolding ChildrenComeTo
+  children_stop c h e fall d w G U out fuel r = sym (first_played c h e fall (state d (stopped w) G U) out fuel r ∙ play_stopped tab.terms budget d w G U (gather (events bs tab fuel) (children_from bs tab b l j p (suc k))))

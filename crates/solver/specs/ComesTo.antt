@@ -1,6 +1,6 @@
 -- What working a branch comes to.
 use Rattle.std.specs.Prelude.{◌≡◌, Bool, false, true, ◌&&◌, List, map, ℕ, suc, ◌-◌, ◌≤◌, ◌<◌, length, get_or}
-use Rattle.std.proofs.Math.Option.{none}
+use Rattle.std.proofs.Math.Option.{none, some}
 use Rattle.calculus.specs.Lists.{up_from, any, gather, picked, bit}
 use Rattle.calculus.specs.Terms.{Term, term, terms_from}
 use Rattle.calculus.specs.Meaning.{Constraint}
@@ -17,7 +17,7 @@ use Rattle.branch.specs.Rows.{literals, literal_count}
 use Rattle.constraints.specs.Decoded.{decoded, Unpacked}
 use Rattle.places.specs.Alternatives.{slots_of, child_of}
 use Rattle.search.specs.declared.Found.{Found}
-use Rattle.search.specs.First.{first_place_of, found, spot, Located}
+use Rattle.search.specs.First.{first_place_of, candidate_at, spot, Located}
 use Rattle.step.specs.declared.Act.{Act}
 use Rattle.step.specs.declared.Act.TheVariants.{Note, Merge, Close}
 use Rattle.step.specs.Left.{Left}
@@ -77,7 +77,7 @@ module _ (bs : List ℕ) (tab : Table) where
 
     -- the same, of all children of the split that was found
     abbrev pub SplitComesTo : Branch → Found → State → State → Type 0
-    SplitComesTo b r s t = ChildrenComeTo b (placed r) r.rule r.root.0 0 s t
+    SplitComesTo b r s t = ChildrenComeTo b (placed r) r.instance.rule r.instance.root.0 0 s t
 
   -- no propagation rule applies
   abbrev pub Settled : Branch → Type 0
@@ -93,16 +93,14 @@ module _ (bs : List ℕ) (tab : Table) where
 
   -- the branch is settled and its first split that applies was found, at a root; the word has the children that are left
   pub record Splits (b : Branch) (s : FoundSplit) : Type 0 where
-    pub ready : Ready b s.run.wake s.run.ripe
+    pub ready : Ready b 0 s.found.left
     pub settled : Settled b
-    pub some_rule : ¬ (s.found.rule ≡ 0)
-    pub first_is : first_place_of true tab.terms constraints_in (held b) ≡ found constraints_in (held b) (spot s.found s.found.root.0)
-    pub located : Located true tab.terms constraints_in (held b) s.found s.found.root.0
-    pub left : (es : List ℕ) → Unpacked bs s.found.number es s.found.constraint → Left constants (held b) (decoded (map term es) s.found.constraint) es s.found.rule s.found.root.0 0 s.left
+    pub first_is : first_place_of true tab.terms constraints_in (held b) ≡ some (candidate_at constraints_in (held b) (spot s.found s.found.instance.root.0))
+    pub located : Located true tab.terms constraints_in (held b) s.found s.found.instance.root.0
+    pub left : (es : List ℕ) → Unpacked bs s.found.number es s.found.instance.constraint → Left constants (held b) (decoded (map term es) s.found.instance.constraint) es s.found.instance.rule s.found.instance.root.0 0 s.left
 
--- the run goes on, within its bounds; without terms there is one form at most
+-- the run is within its bounds; without terms there is one form at most
 pub record Begun (n budget : ℕ) (s : State) : Type 0 where
-  pub on : s.counts.stop ≡ 0
   pub fine : Fine n budget s
   pub no_terms : n ≡ 0 → s.counts.forms ≡ 0
 

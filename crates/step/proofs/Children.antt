@@ -20,6 +20,7 @@ use Rattle.calculus.specs.Search.{Move, fact_of}
 use Rattle.calculus.specs.Invariants.{Falls}
 use Rattle.calculus.proofs.Bools.{and_l, and_r, clash, each_all}
 use Rattle.calculus.proofs.Sequences.{each_at}
+use Rattle.branch.specs.declared.Branch.{Branch as CodedBranch}
 use Rattle.branch.specs.Held.{root_of}
 use Rattle.branch.proofs.Roots.{root_is}
 use Rattle.places.specs.Places.{InSpan, RuleOf, list_move, move_at}
@@ -36,13 +37,16 @@ use Rattle.terms.specs.declared.SetVar.{SetVar as CodedSet}
 use Rattle.terms.specs.declared.Term.{Term as CodedTerm}
 use Rattle.constraints.specs.Decoded.{relation_of, decoded, Handled}
 use Rattle.rules.specs.declared.Child.{Child}
+use Rattle.rules.specs.declared.Instance.{Instance}
 use Rattle.rules.specs.Rows.{numbered, literals_of, count_of, sets, child, HasChild}
 use Rattle.rules.proofs.Laying.{few, row_counts}
+use Rattle.fits.specs.Words.{LowChild}
+use Rattle.fits.proofs.RowBits.{child_low}
 use Rattle.fits.proofs.TableTests.{row_of_relation}
 use Rattle.fits.proofs.FitLaws.{entries_below, root_own}
 use Rattle.step.specs.declared.Act.{Act}
 use Rattle.step.specs.declared.Act.TheVariants.{Close}
-use Rattle.step.specs.Acts.{lists_of, note_of, join_of, Placed, Somewhere, Acts, ActsFor}
+use Rattle.step.specs.Acts.{classes_of, note_of, join_of, Under, Placed, Somewhere, Acts, Actable, ActsFor, OnLowTerms}
 use Rattle.step.proofs.Asserting.{literals_any}
 use Rattle.step.proofs.Acting.{does_by, close_does, note_does, join_does}
 
@@ -87,13 +91,27 @@ entry_rule : (j : ℕ) → InSpan (19, 20) j ⊎ InSpan (20, 21) j → ¬ (j ≡
 entry_rule j (inl r) n = omega (arith, r.0, r.1)
 entry_rule j (inr r) n = absurd (n (omega (arith, r.0, r.1)))
 
--- ---- the code's constraint l is a case m
+-- ---- the code's constraint is of a kind
 
-pub at_case : {ps : List ℕ} {l m : Constraint} {j h c : ℕ} → l ≡ m → Somewhere ps l j h c → Somewhere ps m j h c
-at_case {ps} {l} {m} {j} {h} {c} e = subst (λ (x : Constraint). Somewhere ps x j h c) e
+abbrev pub of_kind : Instance → Constraint → Instance
+of_kind at m = record { constraint = m; rule = at.rule; root = at.root }
 
-pub by_case : {ps : List ℕ} {l m : Constraint} {j h c : ℕ} {a : Act} → l ≡ m → ActsFor ps m j h c a → ActsFor ps l j h c a
-by_case {ps} {l} {m} {j} {h} {c} {a} e = subst (λ (x : Constraint). ActsFor ps x j h c a) (sym e)
+pub at_kind : {ps : List ℕ} {l m : Constraint} {j h c : ℕ} → l ≡ m → Somewhere ps l j h c → Somewhere ps m j h c
+at_kind {ps} {l} {m} {j} {h} {c} e = subst (λ (x : Constraint). Somewhere ps x j h c) e
+
+pub by_kind : (b : CodedBranch) {at : Instance} {m : Constraint} {c : ℕ} {a : Act} → at.constraint ≡ m → ActsFor b (of_kind at m) c a → ActsFor b at c a
+by_kind b {at} {m} {c} {a} e = subst (λ (x : Constraint). ActsFor b (of_kind at x) c a) (sym e)
+
+-- an act that is a note merges nothing
+pub noted : (b : CodedBranch) {at : Instance} {c : ℕ} {a : Act} (r : CodedTerm) (x : Child) → ActsFor b at c (note_of r x) → a ≡ note_of r x → ActsFor b at c a × ((es : List ℕ) → OnLowTerms at es a)
+noted b {at} {c} r x f w = (subst (λ (y : Act). ActsFor b at c y) (sym w) f, λ es n i l. subst (Under n) (sym w) tt)
+
+-- it is of two kinds: on sets, by a row; or its child has a term in a set
+abbrev pub OnSets : Constraint → (A B C : CodedSet) → Type 0
+OnSets l A B C = ((k : CodedRelation) × (l ≡ Related k A B C)) ⊎ ((k : CodedNegation) × (w : CodedTerm) × (l ≡ Negated k A B C w))
+
+abbrev pub Inside : Constraint → CodedSet → Type 0
+Inside l A = ((t : CodedTerm) × (l ≡ Member t A)) ⊎ ((k : Entries) × (l ≡ Listed k A))
 
 -- ---- a child of a rule on sets
 
@@ -114,18 +132,36 @@ module _ {ps es : List ℕ} {j q h c : ℕ} where
       let e = negation_rule P in
       record { low = omega arith; high = omega arith; first_set = P.handled.in_range.0.0; second_set = P.handled.in_range.0.1; there = row_there (Negated k A B C w) P (omega arith) (omega arith) n }
 
+module _ {b : CodedBranch} {at : Instance} {c : ℕ} {A B C : CodedSet} where
+  pub sets_child : OnSets at.constraint A B C → Actable b at c → HasChild at.rule A B c
+  sets_child (inl w) R = let x = at_kind w.1 R.somewhere in related_child x.2 x.3
+  sets_child (inr w) R = let x = at_kind w.2 R.somewhere in negated_child x.2 x.3
+
+  pub sets_low : OnSets at.constraint A B C → Actable b at c → {x : Child} → x ≡ child (sets A B C) (literals_of at.rule c) → LowChild x
+  sets_low (inl w) R {x} e = let y = at_kind w.1 R.somewhere in subst LowChild (sym e) (child_low A.0 B.0 C.0 y.2.handled.in_range (literals_of at.rule c))
+  sets_low (inr w) R {x} e = let y = at_kind w.2 R.somewhere in subst LowChild (sym e) (child_low A.0 B.0 C.0 y.2.handled.in_range.0 (literals_of at.rule c))
+
 -- ---- the acts of rule j at position q, that concern root h; r is the root that the code finds
 
-module _ (ps : List ℕ) (fall : Falls ps) (j h c : ℕ) (r : CodedTerm) (own : r.0 ≡ root_of ps h) where
+module _ (now : CodedBranch) (fall : Falls now.parents) (at : Instance) (c : ℕ) (r : CodedTerm) (own : r.0 ≡ root_of now.parents at.root.0) where
+  abbrev ps : List ℕ
+  ps = now.parents
+
+  abbrev j : ℕ
+  j = at.rule
+
+  abbrev h : ℕ
+  h = at.root.0
+
   -- r is the root of a term of that class
-  its_root : (t : ℕ) → root_at (lists_of ps [] []) t ≡ h → r.0 ≡ root_of ps t
-  its_root t w = own ∙ ap (root_of ps) (sym w ∙ root_is (lists_of ps [] []) t) ∙ root_own ps fall t
+  its_root : (t : ℕ) → root_at (classes_of ps) t ≡ h → r.0 ≡ root_of ps t
+  its_root t w = own ∙ ap (root_of ps) (sym w ∙ root_is (classes_of ps) t) ∙ root_own ps fall t
 
   module _ (es : List ℕ) (q : ℕ) where
     -- child c asserts literals of term t
     record Notes (m : Constraint) (t : ℕ) (s : Operand → SetVar) (rs : List (List Literal)) : Type 0 where
       low : t < most_terms
-      at : r.0 ≡ root_of ps t
+      its : r.0 ≡ root_of ps t
       bounded : (o : Operand) → (s o).index < most_sets
       not_20 : eqb j 20 ≡ false
       not_4 : eqb j 4 ≡ false
@@ -138,19 +174,19 @@ module _ (ps : List ℕ) (fall : Falls ps) (j h c : ℕ) (r : CodedTerm) (own : 
         let some : 0 < length xs = ltb-true 0 (length xs) (and_l (ltb 0 (length xs)) (ltb (length xs) 4) N.small) in
         let less : length xs < 4 = ltb-true (length xs) 4 (and_r (ltb 0 (length xs)) (ltb (length xs) 4) N.small) in
         does_by ps fall _ _ (note_of r x) (λ ks b y. child_literals b (decoded (map term es) m) j q c N.not_20 N.not_4 (term t) s rs (N.offers b y) ks)
-        (note_does ps fall t N.low r N.at s N.bounded xs some (omega arith) x e)
+        (note_does ps fall t N.low r N.its s N.bounded xs some (omega arith) x e)
 
     -- of a rule with one child, of one literal
     one_acts : (m : Constraint) → Placed ps es m j q h → c < slots_of (decoded (map term es) m) j → (t : ℕ) → t < most_terms → r.0 ≡ root_of ps t → (A : SetVar) → A.index < most_sets → Plain j → (o : Literal) → ((b : Branch) → b.parents ≡ ps → (move_at b (decoded (map term es) m) j q).1.alternatives ≡ (fact_of (term t) (λ _. A) o ∷ []) ∷ []) → (x : Child) → x ≡ child (λ _. A.index) (o ∷ []) → Acts ps (decoded (map term es) m) j q c (note_of r x)
-    one_acts m P n t lt at A la pl o f x e =
+    one_acts m P n t lt own_is A la pl o f x e =
         let z : c ≡ 0 = omega (arith, n, slots_other es m P.handled j (λ w. clash (eq-eqb j 20 w) pl.not_20), pl.once) in
-        notes_acts m t (λ _. A) ((o ∷ []) ∷ []) record { low = lt; at = at; bounded = λ _. la; not_20 = pl.not_20; not_4 = pl.not_4; small = rw z; offers = f } x (rw z e)
+        notes_acts m t (λ _. A) ((o ∷ []) ∷ []) record { low = lt; its = own_is; bounded = λ _. la; not_20 = pl.not_20; not_4 = pl.not_4; small = rw z; offers = f } x (rw z e)
 
     -- of a rule on sets, by its row
     row_acts : (m : Constraint) (A B C : CodedSet) → Placed ps es m j q h → HasChild j A B c → C.0 < most_sets → (t : ℕ) → t < most_terms → r.0 ≡ root_of ps t → ((b : Branch) → b.parents ≡ ps → (move_at b (decoded (map term es) m) j q).1.alternatives ≡ map (map (fact_of (term t) (operand_of (set_var A.0) (set_var B.0) (set_var C.0)))) (numbered j).alternatives) → (x : Child) → x ≡ child (sets A B C) (literals_of j c) → Acts ps (decoded (map term es) m) j q c (note_of r x)
-    row_acts m A B C P H lc t lt at f x e = notes_acts m t (operand_of (set_var A.0) (set_var B.0) (set_var C.0)) (numbered j).alternatives record {
+    row_acts m A B C P H lc t lt own_is f x e = notes_acts m t (operand_of (set_var A.0) (set_var B.0) (set_var C.0)) (numbered j).alternatives record {
       low = lt;
-      at = at;
+      its = own_is;
       bounded = bounds;
       not_20 = ne_eqb j 20 (λ w. omega (arith, H.high));
       not_4 = ne_eqb j 4 (λ w. omega (arith, H.low));
@@ -173,27 +209,27 @@ module _ (ps : List ℕ) (fall : Falls ps) (j h c : ℕ) (r : CodedTerm) (own : 
     entry_acts m P n A la e f =
         let move : (b : Branch) → move_at b (decoded (map term es) m) j q ≡ (root b (term (get_or es q 0)), propagation 19 [] (In (term (get_or es q 0)) (set_var A.0))) = λ b. f b ∙ rw (e, get_or-map term es q 0) in
         one_acts m P n (get_or es q 0) (each_at (λ (x : ℕ). x < most_terms) es 0 (entries_below es m P.handled) q (P.of_entry e))
-        (its_root (get_or es q 0) (ap (λ (w : Term × Move). w.0.index) (sym (move (lists_of ps [] []))) ∙ P.concerns)) (set_var A.0) la (rw e record { not_20 = refl; not_4 = refl; once = refl }) (R.In R.A) (λ b _. ap (λ (w : Term × Move). w.1.alternatives) (move b))
+        (its_root (get_or es q 0) (ap (λ (w : Term × Move). w.0.index) (sym (move (classes_of ps))) ∙ P.concerns)) (set_var A.0) la (rw e record { not_20 = refl; not_4 = refl; once = refl }) (R.In R.A) (λ b _. ap (λ (w : Term × Move). w.1.alternatives) (move b))
 
-  pub member_acts : (t : CodedTerm) (A : CodedSet) (x : Child) → x ≡ child (λ _. A.0) (R.In R.A ∷ []) → ActsFor ps (Member t A) j h c (note_of r x)
+  pub member_acts : (t : CodedTerm) (A : CodedSet) (x : Child) → x ≡ child (λ _. A.0) (R.In R.A ∷ []) → ActsFor now (of_kind at (Member t A)) c (note_of r x)
   member_acts t A x e es q P n = one_acts es q (Member t A) P n t.0 P.handled.in_range.0 (its_root t.0 P.concerns) (set_var A.0) P.handled.in_range.1 (in_spans Plain (1, 2) (0, 0) (record { not_20 = refl; not_4 = refl; once = refl }, tt) tt j P.ruled) (R.In R.A) (λ b _. refl) x e
 
-  pub nonmember_acts : (t : CodedTerm) (A : CodedSet) (x : Child) → x ≡ child (λ _. A.0) (R.Out R.A ∷ []) → ActsFor ps (Nonmember t A) j h c (note_of r x)
+  pub nonmember_acts : (t : CodedTerm) (A : CodedSet) (x : Child) → x ≡ child (λ _. A.0) (R.Out R.A ∷ []) → ActsFor now (of_kind at (Nonmember t A)) c (note_of r x)
   nonmember_acts t A x e es q P n = one_acts es q (Nonmember t A) P n t.0 P.handled.in_range.0 (its_root t.0 P.concerns) (set_var A.0) P.handled.in_range.1 (in_spans Plain (2, 3) (0, 0) (record { not_20 = refl; not_4 = refl; once = refl }, tt) tt j P.ruled) (R.Out R.A) (λ b _. refl) x e
 
-  pub related_acts : (k : CodedRelation) (A B C : CodedSet) (x : Child) → x ≡ child (sets A B C) (literals_of j c) → ActsFor ps (Related k A B C) j h c (note_of r x)
+  pub related_acts : (k : CodedRelation) (A B C : CodedSet) (x : Child) → x ≡ child (sets A B C) (literals_of j c) → ActsFor now (of_kind at (Related k A B C)) c (note_of r x)
   related_acts k A B C x e es q P n = row_acts es q (Related k A B C) A B C P (related_child P n) P.handled.in_range.2 q (omega (arith, P.concerns, P.low)) (own ∙ ap (root_of ps) (sym P.concerns))
       (λ b _. ap (λ (w : Rule Literal). map (map (fact_of (term q) (operand_of (set_var A.0) (set_var B.0) (set_var C.0)))) w.alternatives) (row_of_relation (relation_of k) (set_var A.0) (set_var B.0) (set_var C.0) j P.ruled).is) x e
 
-  pub negated_acts : (k : CodedNegation) (A B C : CodedSet) (v : CodedTerm) (x : Child) → x ≡ child (sets A B C) (literals_of j c) → ActsFor ps (Negated k A B C v) j h c (note_of r x)
+  pub negated_acts : (k : CodedNegation) (A B C : CodedSet) (v : CodedTerm) (x : Child) → x ≡ child (sets A B C) (literals_of j c) → ActsFor now (of_kind at (Negated k A B C v)) c (note_of r x)
   negated_acts Unequal A B C v x e es q P n = row_acts es q (Negated Unequal A B C v) A B C P (negated_child P n) P.handled.in_range.0.2 v.0 P.handled.in_range.1 (its_root v.0 P.concerns) (λ b _. rw (negation_rule P)) x e
 
-  pub listed_acts : ¬ (j ≡ 20) → (k : Entries) (A : CodedSet) (x : Child) → x ≡ child (λ _. A.0) (R.In R.A ∷ []) → ActsFor ps (Listed k A) j h c (note_of r x)
+  pub listed_acts : ¬ (j ≡ 20) → (k : Entries) (A : CodedSet) (x : Child) → x ≡ child (λ _. A.0) (R.In R.A ∷ []) → ActsFor now (of_kind at (Listed k A)) c (note_of r x)
   listed_acts n20 Written A x e es q P n = entry_acts es q (Listed Written A) P n A P.handled.in_range.0 (entry_rule j P.ruled n20) (λ b. refl) x e
   listed_acts n20 (Interval t u) A x e es q P n = entry_acts es q (Listed (Interval t u) A) P n A P.handled.in_range.0 (entry_rule j P.ruled n20) (λ b. refl) x e
 
   -- merging with a term is merging with another of its class
-  pub same_acts : (t u k : CodedTerm) → k.0 ≡ root_of ps u.0 → ActsFor ps (Equated t u) j h c (join_of r k)
+  pub same_acts : (t u k : CodedTerm) → k.0 ≡ root_of ps u.0 → ActsFor now (of_kind at (Equated t u)) c (join_of r k)
   unfolding child_of
   same_acts t u k d es q P n = does_by ps fall _ _ (join_of r k) (λ ks b y. first ks b) (join_does ps fall t.0 u.0 P.handled.in_range.0 P.handled.in_range.1 r k (its_root t.0 P.concerns) d)
     where
@@ -206,9 +242,19 @@ module _ (ps : List ℕ) (fall : Falls ps) (j h c : ℕ) (r : CodedTerm) (own : 
       first : (ks : List Term) (b : Branch) → child_of ks b (decoded (map term es) (Equated t u)) j q c ≡ assert ks b (Same (term t.0) (term u.0))
       first ks b = rw (pl.not_20, pl.not_4, z) (assert_one ks b (Same (term t.0) (term u.0)))
 
-  pub different_acts : (t u : CodedTerm) → ActsFor ps (Different t u) j h c Close
+  pub different_acts : (t u : CodedTerm) → ActsFor now (of_kind at (Different t u)) c Close
   unfolding child_of
   different_acts t u es q P n = close_does ps fall _ (λ ks b y. none_here ks b)
     where
       none_here : (ks : List Term) (b : Branch) → child_of ks b (decoded (map term es) (Different t u)) j q c ≡ none
       none_here ks b = in_spans (λ j. child_of ks b (decoded (map term es) (Different t u)) j q c ≡ none) (4, 5) (0, 0) (refl, tt) tt j P.ruled
+
+  -- ---- of two kinds
+
+  pub sets_acts : {A B C : CodedSet} → OnSets at.constraint A B C → (x : Child) → x ≡ child (sets A B C) (literals_of j c) → ActsFor now at c (note_of r x)
+  sets_acts {A} {B} {C} (inl w) x e = by_kind now w.1 (related_acts w.0 A B C x e)
+  sets_acts {A} {B} {C} (inr w) x e = by_kind now w.2 (negated_acts w.0 A B C w.1 x e)
+
+  pub inside_acts : {A : CodedSet} → Inside at.constraint A → ¬ (j ≡ 20) → (x : Child) → x ≡ child (λ _. A.0) (R.In R.A ∷ []) → ActsFor now at c (note_of r x)
+  inside_acts {A} (inl w) n x e = by_kind now w.1 (member_acts w.0 A x e)
+  inside_acts {A} (inr w) n x e = by_kind now w.1 (listed_acts n w.0 A x e)

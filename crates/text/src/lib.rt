@@ -1,55 +1,68 @@
-// Text in a buffer. Each function writes at a place, and answers where the text ends.
+// Text in a buffer.
 #![tactic(auto)]
 
-ghost use Rattle.std.specs.Prelude.{◌+◌, ◌≤◌, length};
+ghost use Rattle.std.specs.Prelude.{◌≡◌, ◌+◌, ◌≤◌, length};
 ghost use Rattle.calculus.specs.Reading.{signed};
 ghost use Rattle.text.specs.Text.{decimal as Text·decimal, number as Text·number, led, Wrote};
 
 use slices::put;
 
-// Bytes as they are.
-pub fn say(bytes: &[u8], text: &mut [u8], at: usize) -> usize
-    requires { at + length bytes.now ≤ length text.old }
-    ensures { Wrote text.old at bytes.now result text.new }
-{
-    put(bytes, text, at);
-    at + bytes.len()
+// A buffer, and where the text in it ends: each method writes there, and keeps the buffer. Who calls it sees to it that there is room.
+#[derive(Drop)]
+pub struct Text<'a> {
+    pub buffer: &'a mut [u8],
+    pub end: usize,
 }
 
-// A number in decimal.
-pub fn decimal(n: u64, text: &mut [u8], at: usize) -> usize
-    requires { at + length (Text·decimal n) ≤ length text.old }
-    ensures { Wrote text.old at (Text·decimal n) result text.new }
-{
-    let digit = [48 + (n % 10) as u8];
-    if n < 10 {
-        return say(&digit, text, at);
+impl Text<'_> {
+    // Bytes as they are.
+    pub fn say(&mut self, bytes: &[u8])
+        requires { self.old.end + length bytes.now ≤ length self.old.buffer.now }
+        ensures wrote { Wrote self.old.buffer.now self.old.end bytes.now self.new.end self.new.buffer.now }
+        ensures same { self.new.buffer.ghost_name ≡ self.old.buffer.ghost_name }
+    {
+        put(bytes, self.buffer, self.end);
+        self.end += bytes.len();
     }
-    let next = decimal(n / 10, text, at);
-    say(&digit, text, next)
-}
 
-// The whole number of a two-byte word, a minus sign first if negative.
-pub fn number(x: u16, text: &mut [u8], at: usize) -> usize
-    requires { at + 6 ≤ length text.old }
-    ensures { Wrote text.old at (Text·number (signed x)) result text.new × (result ≤ at + 6) }
-{
-    let n = x as u64;
-    if n < 32768 {
-        return decimal(n, text, at);
+    // A number in decimal.
+    pub fn decimal(&mut self, n: u64)
+        requires { self.old.end + length (Text·decimal n) ≤ length self.old.buffer.now }
+        ensures wrote { Wrote self.old.buffer.now self.old.end (Text·decimal n) self.new.end self.new.buffer.now }
+        ensures same { self.new.buffer.ghost_name ≡ self.old.buffer.ghost_name }
+    {
+        let digit = b'0' + (n % 10) as u8;
+        if n < 10 {
+            return self.say(&[digit]);
+        }
+        self.decimal(n / 10);
+        self.say(&[digit]);
     }
-    let sign = say(b"-", text, at);
-    decimal(65536 - n, text, sign)
-}
 
-// A separator, unless nothing was written since a place.
-pub fn lead(separator: u8, text: &mut [u8], start: usize, end: usize) -> usize
-    requires { end + 1 ≤ length text.old }
-    ensures { Wrote text.old end (led separator start end) result text.new × (result ≤ end + 1) }
-{
-    if end == start {
-        return end;
+    // The whole number of a two-byte word, a minus sign first if negative.
+    pub fn number(&mut self, x: u16)
+        requires { self.old.end + 6 ≤ length self.old.buffer.now }
+        ensures wrote { Wrote self.old.buffer.now self.old.end (Text·number (signed x)) self.new.end self.new.buffer.now }
+        ensures short { self.new.end ≤ self.old.end + 6 }
+        ensures same { self.new.buffer.ghost_name ≡ self.old.buffer.ghost_name }
+    {
+        let n = x as u64;
+        if n < 32768 {
+            return self.decimal(n);
+        }
+        self.say(b"-");
+        self.decimal(65536 - n);
     }
-    let byte = [separator];
-    say(&byte, text, end)
+
+    // A separator, unless nothing was written since a place.
+    pub fn lead(&mut self, separator: u8, start: usize)
+        requires { self.old.end + 1 ≤ length self.old.buffer.now }
+        ensures wrote { Wrote self.old.buffer.now self.old.end (led separator start self.old.end) self.new.end self.new.buffer.now }
+        ensures short { self.new.end ≤ self.old.end + 1 }
+        ensures same { self.new.buffer.ghost_name ≡ self.old.buffer.ghost_name }
+    {
+        if self.end != start {
+            self.say(&[separator]);
+        }
+    }
 }

@@ -1,42 +1,40 @@
 -- Each refusal rests on reading being refused there, the last return on nothing being left.
-use Rattle.std.proofs.Common.{arith, refl}
-use Rattle.assignment.proofs.Layouts.{refuses, no_count, other_count, no_values, start, no_set, short_set, unordered_set, set_read, left_over, laid_out}
+use Rattle.std.proofs.Common.{ℕ, List, ◌≤◌, arith, refl, sym, ◌∙◌}
+use Rattle.std.specs.Borrow.{Bor}
+use borrow.Author.Tests.{eqb-true, eqb-false}
+use Rattle.std.proofs.lemmas.List.{map-set, length-map}
+use Rattle.assignment.proofs.Layouts.{no_count, other_count, no_values, start, no_set, set_read, left_over, laid_out, unwritten, written, where_true}
+use Rattle.assignment.specs.Laid.{Lays}
 use Rattle.assignment.proofs.lay_out.Goals as goal
 
-pub returns-then-assignment-eq0 : goal.returns-then-assignment-eq0
-returns-then-assignment-eq0 c = refuses _ _ _ _ c.no_layout.ensures (no_count _ _ _ c.if-assignment-eq0.true)
+pub returns-in_err-count : goal.returns-in_err-count
+returns-in_err-count c = rw c.from_residual.ensures (no_count _ _ _ c.in_err-count.ensures.cases)
 
-pub returns-then-assignment-variables : goal.returns-then-assignment-variables
-returns-then-assignment-variables c =
-    refuses _ _ _ _ c.no_layout-then-assignment-variables.ensures (other_count _ _ _ (omega arith) (λ e. omega arith))
+pub returns-then-count-variables : goal.returns-then-count-variables
+returns-then-count-variables c = rw c.in_ok-count.ensures.cases.0 (other_count _ _ _ _ c.if-count-variables.true)
 
-pub returns-then-assignment-at : goal.returns-then-assignment-at
-returns-then-assignment-at c =
-    refuses _ _ _ _ c.no_layout-then-assignment-at.ensures (no_values _ _ _ (omega arith) (omega arith) (omega arith))
+pub returns-in_err-values : goal.returns-in_err-values
+returns-in_err-values c =
+    rw (c.from_residual-in_err-values.ensures, c.in_ok-count.ensures.cases.0) (no_values _ _ _ _ c.if-count-variables.false c.in_err-values.ensures.cases)
 
-pub loop-k-init : goal.loop-k-init
-loop-k-init c = (omega arith, start _ _ _ _ (omega arith) (omega arith) (omega arith) refl refl)
+pub loop-part-init : goal.loop-part-init
+loop-part-init c =
+    let x = c.in_ok-values.ensures.cases in
+    start _ _ _ _ _ _ _ _ c.in_ok-count.ensures.cases.0 c.if-count-variables.false x.0 x.1 x.2 (unwritten (λ m. m.now) _ c.args.sets 8 c.requires)
 
-pub returns-then-assignment-at-2 : goal.returns-then-assignment-at-2
-returns-then-assignment-at-2 c =
-    refuses _ _ _ _ c.no_layout-then-assignment-at-2.ensures (no_set c.loop-k.invariant.1 (omega arith) (omega arith))
+pub returns-in_err-part : goal.returns-in_err-part
+returns-in_err-part c = rw c.from_residual-in_err-part.ensures (no_set c.loop-part.invariant (omega (arith, c.loop-part.invariant.long, length-map {A = Bor (List ℕ)} {B = List ℕ})) c.in_err-part.ensures)
 
-pub returns-then-assignment-from : goal.returns-then-assignment-from
-returns-then-assignment-from c =
-    refuses _ _ _ _ c.no_layout-then-assignment-from.ensures (short_set c.loop-k.invariant.1 (omega arith) (omega arith) (omega arith))
-
-pub returns-then-not-rising : goal.returns-then-not-rising
-returns-then-not-rising c =
-    refuses _ _ _ _ c.no_layout-then-not-rising.ensures
-    (unordered_set c.loop-k.invariant.1 (omega arith) (omega arith) c.if-assignment-from.false c.type_inv.assignment _ c.rising.ensures c.if-not-rising.true)
-
-pub loop-k-preserved : goal.loop-k-preserved
-loop-k-preserved c =
-    (omega arith, set_read c.loop-k.invariant.1 (omega arith) (omega arith) c.if-assignment-from.false c.type_inv.assignment _ c.rising.ensures c.requires c.if-not-rising.false)
-
-pub returns-then-at-assignment : goal.returns-then-at-assignment
-returns-then-at-assignment c =
-    refuses _ _ _ _ c.no_layout-then-at-assignment.ensures (left_over c.loop-k.invariant.1 (omega arith) (omega arith))
+pub loop-part-preserved : goal.loop-part-preserved
+loop-part-preserved c =
+    let v = c.in_ok-part in
+    rw (map-set (λ m. m.now) c.loop-part.part-items c.loop-part.part-index v.field-0-0) (set_read c.loop-part.invariant (omega (arith, c.loop-part.invariant.long, length-map {A = Bor (List ℕ)} {B = List ℕ})) _ _ v.ensures)
 
 pub returns : goal.returns
-returns c = laid_out c.loop-k.invariant.1 (omega arith) (omega arith) (omega arith) (omega arith)
+returns c =
+    let v = c.loop-part.invariant in
+    let over : c.args.sets ≤ c.loop-part.part-index = omega (arith, v.long, length-map {A = Bor (List ℕ)} {B = List ℕ}) in
+    rw c.then_some.ensures
+    (where_true (Lays c.args.bytes.now c.args.variables c.args.sets) _ _
+    (λ t. laid_out v over _ refl (written (λ m. m.now) _ c.args.sets 8 c.requires c.loop-part.part-items refl v.long) (omega (arith, c.in_ok-values.ensures.cases.3)) (eqb-true _ 0 (sym c.is_empty.ensures ∙ t)))
+    (λ t. left_over v over (eqb-false _ 0 (sym c.is_empty.ensures ∙ t))))

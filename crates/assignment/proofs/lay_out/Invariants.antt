@@ -1,7 +1,7 @@
--- k sets are laid out, and reading the assignment is reading what is left from `at` on.
-use Rattle.std.proofs.Common.{◌≤◌, length}
-use Rattle.assignment.proofs.Layouts.{SoFar, layout}
+-- As many sets are laid out, and reading the assignment is reading what is left.
+use Rattle.std.proofs.Common.{map}
+use Rattle.assignment.proofs.Layouts.{SoFar}
 use Rattle.assignment.proofs.lay_out.Given as goal
 
-abbrev pub invariant-loop-k : goal.invariant-loop-k
-invariant-loop-k l = (l.at ≤ length l.assignment) × SoFar l.assignment l.variables l.sets (layout l.starts l.counts) l.k l.at
+abbrev pub invariant-loop-part : goal.invariant-loop-part
+invariant-loop-part l = SoFar l.bytes l.variables l.sets l.values (map (λ m. m.now) l.part-items) l.part-index l.rest

@@ -1,21 +1,24 @@
 -- A turn does the lowest literal of the mask, and takes its bit away; with no bit left nothing is left to do.
-use Rattle.std.proofs.Common.{ℕ, ◌-◌, arith, rules, sym, ap, ◌∙◌, slice_set, bit_and}
-use lib.Count.{count_trailing_zeros}
-use Rattle.bits.proofs.Count.{less_lt}
+use Rattle.std.proofs.Common.{arith, sym, ap, ◌∙◌, slice_set}
+use Rattle.bits.proofs.Bits.{bit_low}
+use Rattle.bits.proofs.Taking.{takes_less}
 use Rattle.branch.specs.Rows.{turn_rows, literal_count}
 use Rattle.branch.proofs.Turning.{turn_none, turn_next}
 use Rattle.branch.proofs.turn_rows.Goals as goal
 
-pub loop-left-preserved : goal.loop-left-preserved
-loop-left-preserved c =
-    let s = c.args in
-    let v = c.loop-left in
-    let n = c.loop-left-test.true in (
-      omega (arith, v.invariant.0, less_lt v.left n),
-      ap (λ (x : ℕ). turn_rows s.on s.off (bit_and v.left (v.left - 1)) (slice_set v.rows (count_trailing_zeros literal_count v.left) x)) c.turned.ensures
-          ∙ turn_next s.on s.off literal_count v.left v.rows (search rules) v.invariant.0 n
-          ∙ v.invariant.1,
-    )
+pub bounds-rows-k : goal.bounds-rows-k
+bounds-rows-k c = bit_low literal_count _ _ c.loop-k.invariant.small c.in-Some.ensures.steps.set
+
+pub loop-k-preserved : goal.loop-k-preserved
+loop-k-preserved c =
+    let a = c.args in
+    let v = c.loop-k in
+    let steps = c.in-Some.ensures.steps in
+    let below = bit_low literal_count v.k-iterator.0 c.in-Some.k v.invariant.small steps.set in
+    record {
+      small = omega (arith, takes_less steps);
+      left = ap (λ x. turn_rows a.on a.off c.next.new.self.0 (slice_set v.rows c.in-Some.k x)) c.turned.ensures ∙ turn_next a.on a.off steps v.rows (omega arith) ∙ v.invariant.left;
+    }
 
 pub returns : goal.returns
-returns c = sym (turn_none c.args.on c.args.off c.loop-left.left c.loop-left.rows c.loop-left-test.false) ∙ c.loop-left.invariant.1
+returns c = sym (turn_none c.args.on c.args.off _ _ c.in-None.ensures.steps.0) ∙ c.loop-k.invariant.left

@@ -3,8 +3,8 @@ use Rattle.std.proofs.Common.{◌≡◌, ◌<◌, ◌^◌}
 use Rattle.branch.specs.Rows.{turn_rows, literal_count}
 use Rattle.branch.proofs.turn_rows.Given as goal
 
-abbrev pub invariant-loop-left : goal.invariant-loop-left
-invariant-loop-left l = (l.left < 2 ^ literal_count) × (turn_rows l.on l.off l.left l.rows ≡ turn_rows l.on l.off l.literals l.initial.rows)
-
-abbrev pub decreases-loop-left : goal.decreases-loop-left
-decreases-loop-left l = l.left
+abbrev pub invariant-loop-k : goal.invariant-loop-k
+invariant-loop-k l = record {
+  small : l.k-iterator.0 < 2 ^ literal_count;
+  left : turn_rows l.on l.off l.k-iterator.0 l.rows ≡ turn_rows l.on l.off l.literals l.initial.rows;
+}

@@ -1,15 +1,16 @@
--- Each return is the word of its verdict, by why the run stopped and whether forms were listed.
-use Rattle.capi.proofs.AnswerWords.{spent_word, full_word, false_word, forms_word}
+-- Each arm's verdict is that of the end that it matches.
+use Rattle.std.proofs.Common.{arith}
+use Rattle.calculus.specs.Calls.{answer_word}
+use Rattle.capi.proofs.Calling.{some_forms}
 use Rattle.capi.proofs.ended.Goals as goal
-
-pub returns-then-c-eq1 : goal.returns-then-c-eq1
-returns-then-c-eq1 c = spent_word _ _ _ c.if-c-eq1.true
-
-pub returns-then-c-ne0 : goal.returns-then-c-ne0
-returns-then-c-ne0 c = full_word _ _ _ c.if-c-eq1.false c.if-c-ne0.true
-
-pub returns-then-forms-eq0 : goal.returns-then-forms-eq0
-returns-then-forms-eq0 c = false_word _ _ _ c.if-c-ne0.false c.if-forms-eq0.true
+use Rattle.capi.proofs.ended.Goals.{in-Err-Spent, in-Err-NoRoom, in-Ok, in-Ok-2}
 
 pub returns : goal.returns
-returns c = forms_word _ _ _ c.if-c-ne0.false c.if-forms-eq0.false
+unfolding answer_word
+returns c =
+    elim c.match-run.branch [
+      | in-Err-Spent w ↦ let q = rw w.in-Err-Spent.is at w.in-Err-Spent.field-0-is in rw (w.verdict-is, w.in-Err-Spent.is, q) (omega arith)
+      | in-Err-NoRoom w ↦ let q = rw w.in-Err-NoRoom.is at w.in-Err-NoRoom.field-0-is in rw (w.verdict-is, w.in-Err-NoRoom.is, q) (omega arith)
+      | in-Ok w ↦ rw (w.verdict-is, w.in-Ok.is, w.if-run-eq0.true) (omega arith)
+      | in-Ok-2 w ↦ rw (w.verdict-is, w.in-Ok.is, some_forms _ w.if-run-eq0.false) (omega arith)
+    ]

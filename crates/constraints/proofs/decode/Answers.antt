@@ -1,14 +1,68 @@
--- An opened table has at i where constraint i stands and its witness.
-use Rattle.constraints.proofs.Decoding.{stands_there}
+-- Each arm is the constraint of its kind over the bytes that follow the kind byte.
+use Rattle.std.proofs.Common.{arith, refl}
+use mathlib.Core.Logic.{inl, inr}
+use Rattle.constraints.proofs.Decoding.{stands_there, kind_known, operands, third_operand, reads_as}
 use Rattle.constraints.proofs.decode.Goals as goal
 
-pub bounds-witnesses-i : goal.bounds-witnesses-i
-bounds-witnesses-i c = (stands_there _ _ _ c.requires.0 c.requires.1).0
+pub offset_bounds-problem-i : goal.offset_bounds-problem-i
+offset_bounds-problem-i c = omega (arith, (stands_there _ _ _ c.args.problem.now.opened c.requires).0)
 
-pub bounds-offsets-i : goal.bounds-offsets-i
-bounds-offsets-i c = (stands_there _ _ _ c.requires.0 c.requires.1).0
+pub bounds-problem-i : goal.bounds-problem-i
+bounds-problem-i c = (stands_there _ _ _ c.args.problem.now.opened c.requires).0
 
-pub decode_at-requires : goal.decode_at-requires
-decode_at-requires c =
-    let h = stands_there _ _ _ c.requires.0 c.requires.1 in
-    (h.1, h.2)
+pub bounds-line-0 : goal.bounds-line-0
+bounds-line-0 c = omega (arith, operands _ _ _ c.args.problem.now.opened c.requires _ c.from-line.ensures)
+
+pub unreachable-requires : goal.unreachable-requires
+unreachable-requires c = kind_known _ _ _ c.args.problem.now.opened c.requires _ c.from-line.ensures c.in_default.ensures.1
+
+pub bounds-line-1 : goal.bounds-line-1
+bounds-line-1 c = omega (arith, operands _ _ _ c.args.problem.now.opened c.requires _ c.from-line.ensures)
+
+pub bounds-line-2 : goal.bounds-line-2
+bounds-line-2 c = operands _ _ _ c.args.problem.now.opened c.requires _ c.from-line.ensures
+
+pub bounds-line-3 : goal.bounds-line-3
+bounds-line-3 c = third_operand _ _ _ c.args.problem.now.opened c.requires _ c.from-line.ensures c.in-Ok.ensures c.in-Union.is (inl refl)
+
+pub bounds-line-3-in-Intersection : goal.bounds-line-3-in-Intersection
+bounds-line-3-in-Intersection c = third_operand _ _ _ c.args.problem.now.opened c.requires _ c.from-line.ensures c.in-Ok.ensures c.in-Intersection.is (inr (inl refl))
+
+pub bounds-line-3-in-Interval : goal.bounds-line-3-in-Interval
+bounds-line-3-in-Interval c = third_operand _ _ _ c.args.problem.now.opened c.requires _ c.from-line.ensures c.in-Ok.ensures c.in-Interval.is (inr (inr refl))
+
+pub returns-in-Member : goal.returns-in-Member
+returns-in-Member c = reads_as _ _ _ c.args.problem.now.opened c.requires _ c.from-line.ensures c.in-Ok.ensures c.in-Member.is
+
+pub returns-in-Nonmember : goal.returns-in-Nonmember
+returns-in-Nonmember c = reads_as _ _ _ c.args.problem.now.opened c.requires _ c.from-line.ensures c.in-Ok.ensures c.in-Nonmember.is
+
+pub returns-in-Same : goal.returns-in-Same
+returns-in-Same c = reads_as _ _ _ c.args.problem.now.opened c.requires _ c.from-line.ensures c.in-Ok.ensures c.in-Same.is
+
+pub returns-in-Different : goal.returns-in-Different
+returns-in-Different c = reads_as _ _ _ c.args.problem.now.opened c.requires _ c.from-line.ensures c.in-Ok.ensures c.in-Different.is
+
+pub returns-in-Equal : goal.returns-in-Equal
+returns-in-Equal c = reads_as _ _ _ c.args.problem.now.opened c.requires _ c.from-line.ensures c.in-Ok.ensures c.in-Equal.is
+
+pub returns-in-Unequal : goal.returns-in-Unequal
+returns-in-Unequal c = reads_as _ _ _ c.args.problem.now.opened c.requires _ c.from-line.ensures c.in-Ok.ensures c.in-Unequal.is
+
+pub returns-in-Union : goal.returns-in-Union
+returns-in-Union c = reads_as _ _ _ c.args.problem.now.opened c.requires _ c.from-line.ensures c.in-Ok.ensures c.in-Union.is
+
+pub returns-in-Disjoint : goal.returns-in-Disjoint
+returns-in-Disjoint c = reads_as _ _ _ c.args.problem.now.opened c.requires _ c.from-line.ensures c.in-Ok.ensures c.in-Disjoint.is
+
+pub returns-in-Subset : goal.returns-in-Subset
+returns-in-Subset c = reads_as _ _ _ c.args.problem.now.opened c.requires _ c.from-line.ensures c.in-Ok.ensures c.in-Subset.is
+
+pub returns-in-Intersection : goal.returns-in-Intersection
+returns-in-Intersection c = reads_as _ _ _ c.args.problem.now.opened c.requires _ c.from-line.ensures c.in-Ok.ensures c.in-Intersection.is
+
+pub returns-in-Exactly : goal.returns-in-Exactly
+returns-in-Exactly c = reads_as _ _ _ c.args.problem.now.opened c.requires _ c.from-line.ensures c.in-Ok.ensures c.in-Exactly.is
+
+pub returns-in-Interval : goal.returns-in-Interval
+returns-in-Interval c = reads_as _ _ _ c.args.problem.now.opened c.requires _ c.from-line.ensures c.in-Ok.ensures c.in-Interval.is

@@ -1,6 +1,6 @@
--- The bits found and those of the entries from p on are those of all entries.
+-- The bits found and those of the entries from the next one on are those of all entries.
 use Rattle.fits.proofs.Listed.{Gathered}
 use Rattle.fits.proofs.entry_bits.Given as goal
 
-abbrev pub invariant-loop-p : goal.invariant-loop-p
-invariant-loop-p l = Gathered (λ e. e) l.list l.found l.p
+abbrev pub invariant-loop-e : goal.invariant-loop-e
+invariant-loop-e l = Gathered (λ e. e) l.list l.found l.e-index

@@ -1,6 +1,6 @@
--- No entry before p is missing.
+-- No entry so far is missing.
 use Rattle.fits.proofs.Listed.{Missing}
 use Rattle.fits.proofs.first_missing.Given as goal
 
-abbrev pub invariant-loop-p : goal.invariant-loop-p
-invariant-loop-p l = Missing l.parents l.row l.list l.p
+abbrev pub invariant-loop-e : goal.invariant-loop-e
+invariant-loop-e l = Missing l.b.parents l.row l.list l.e-index

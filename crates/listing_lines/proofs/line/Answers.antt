@@ -1,19 +1,18 @@
 -- Line 0 is the heading, and after the last there is nothing; any other is the line of record i - 1, which stands in the form buffer since it was counted.
-use Rattle.std.proofs.Common.{List, ℕ, ◌≡◌, refl, sym, ap, ◌∙◌, suc, ◌+◌, ◌-◌, arith}
+use Rattle.std.proofs.Common.{rules, refl, sym, ap, ◌∙◌, ◌≡◌, suc, ◌-◌, arith}
 use Rattle.calculus.specs.Problem.{term_count}
 use Rattle.calculus.specs.Forms.{record_length}
-use Rattle.problem.specs.declared.Table.{Table}
-use Rattle.problem.specs.Table.{Opened}
+use Rattle.listing_lines.specs.Listing.{heading}
 use Rattle.listing_lines.specs.Writing.{problem_in, line_at}
 use Rattle.text.proofs.Texts.{wrote_over}
-use Rattle.listing_lines.proofs.Values.{known}
-use Rattle.listing_lines.proofs.LineLaws.{first_line, no_line, counted_form}
+use Rattle.listing_lines.proofs.LineLaws.{first_line, no_line, counted_form, no_refusal, same_bytes, same_length, part}
 use Rattle.listing_lines.proofs.line.Goals as goal
 
 pub returns-then-i-eq0 : goal.returns-then-i-eq0
 returns-then-i-eq0 c =
     let a = c.args in
-    wrote_over (line_at a.problem.now a.i) c.heading.ensures (ap (line_at a.problem.now) c.if-i-eq0.true ∙ first_line a.problem.now a.word a.forms.now c.requires.0)
+    let r = wrote_over (line_at a.problem.now a.i) c.say_heading.ensures.wrote (ap (line_at a.problem.now) c.if-i-eq0.true ∙ first_line a.problem.now a.word a.forms.now c.requires.0 ∙ ap heading (sym c.from.ensures.0)) in
+    search (rules, r)
 
 pub returns-then-lines-i : goal.returns-then-lines-i
 returns-then-lines-i c =
@@ -21,42 +20,40 @@ returns-then-lines-i c =
     let e = c.lines.ensures.1 a.problem.now a.forms.now c.requires.0 in
     rw (no_line a.problem.now a.word a.forms.now c.requires.0 a.i (omega (arith, e, c.if-lines-i.true))) (refl, refl)
 
--- a record of an opened problem is as long as its terms say
-size_is : (bs : List ℕ) (tab : Table) (size : ℕ) → Opened bs tab → size ≡ record_length tab.terms → size ≡ record_length (term_count (problem_in bs))
-size_is bs tab size o e = e ∙ ap record_length (known bs tab o).terms
-
-part : (at size : ℕ) → at + size - at ≡ size
-part at size = omega arith
+pub unreachable-requires : goal.unreachable-requires
+unreachable-requires c =
+    let a = c.args in
+    let f = counted_form a.problem.now a.word a.forms.now c.requires.0 (a.i - 1) (omega (arith, c.lines.ensures.0, c.if-lines-i.false)) in
+    no_refusal a.problem.now (problem_in a.problem.now) f.reads c.in_default.field-0 c.in_default.ensures
 
 pub overflow_mul-from : goal.overflow_mul-from
 overflow_mul-from c =
     let a = c.args in
     let f = counted_form a.problem.now a.word a.forms.now c.requires.0 (a.i - 1) (omega (arith, c.lines.ensures.0, c.if-lines-i.false)) in
-    rw (size_is _ _ _ (f.opens _ c.read-tab.ensures) c.record_length-size.ensures) (omega (arith, f.fits, f.long))
+    rw (c.record_length-size.ensures ∙ same_length _ _ f.reads _ c.in-Ok.ensures) (omega (arith, f.fits, f.long))
 
-pub overflow_add-end : goal.overflow_add-end
-overflow_add-end c =
+pub overflow_add-record : goal.overflow_add-record
+overflow_add-record c =
     let a = c.args in
     let f = counted_form a.problem.now a.word a.forms.now c.requires.0 (a.i - 1) (omega (arith, c.lines.ensures.0, c.if-lines-i.false)) in
-    rw (size_is _ _ _ (f.opens _ c.read-tab.ensures) c.record_length-size.ensures) (omega (arith, f.fits, f.long))
+    rw (c.record_length-size.ensures ∙ same_length _ _ f.reads _ c.in-Ok.ensures) (omega (arith, f.fits, f.long))
 
-pub slice_bounds-form_line-end : goal.slice_bounds-form_line-end
-slice_bounds-form_line-end c =
+pub slice_bounds-record-end : goal.slice_bounds-record-end
+slice_bounds-record-end c =
     let a = c.args in
     let f = counted_form a.problem.now a.word a.forms.now c.requires.0 (a.i - 1) (omega (arith, c.lines.ensures.0, c.if-lines-i.false)) in
-    rw (size_is _ _ _ (f.opens _ c.read-tab.ensures) c.record_length-size.ensures) f.fits
+    rw (c.record_length-size.ensures ∙ same_length _ _ f.reads _ c.in-Ok.ensures) f.fits
 
-pub form_line-requires : goal.form_line-requires
-form_line-requires c =
+pub invariant_of-form : goal.invariant_of-form
+invariant_of-form c =
     let a = c.args in
     let f = counted_form a.problem.now a.word a.forms.now c.requires.0 (a.i - 1) (omega (arith, c.lines.ensures.0, c.if-lines-i.false)) in
-    let o = f.opens _ c.read-tab.ensures in
-    (o, rw (size_is _ _ _ o c.record_length-size.ensures, part) f.listed_is, c.requires.1)
+    record { shaped = rw (same_bytes _ _ f.reads _ c.in-Ok.ensures, c.record_length-size.ensures ∙ same_length _ _ f.reads _ c.in-Ok.ensures, part) f.listed_is }
 
 pub returns : goal.returns
 returns c =
     let a = c.args in
     let f = counted_form a.problem.now a.word a.forms.now c.requires.0 (a.i - 1) (omega (arith, c.lines.ensures.0, c.if-lines-i.false)) in
-    let o = f.opens _ c.read-tab.ensures in
     let j : a.i ≡ suc (a.i - 1) = omega arith in
-    wrote_over (line_at a.problem.now a.i) c.form_line.ensures (ap (line_at a.problem.now) j ∙ f.line_is ∙ sym (rw (size_is _ _ _ o c.record_length-size.ensures, part) refl))
+    let r = wrote_over (line_at a.problem.now a.i) c.say_line.ensures.wrote (ap (line_at a.problem.now) j ∙ f.line_is ∙ sym (rw (same_bytes _ _ f.reads _ c.in-Ok.ensures, c.record_length-size.ensures ∙ same_length _ _ f.reads _ c.in-Ok.ensures, part) refl)) in
+    search (rules, r)

@@ -1,32 +1,29 @@
--- Each return rests on the constraint as it was matched; a relation's on the loop over its propagation rules, and on whether it has a split.
+-- A relation's return rests on the loop over its propagation rules, and on whether it has a split.
 use Rattle.std.proofs.Common.{arith}
-use Rattle.constraints.proofs.Decoding.{two_operands}
-use Rattle.marks.proofs.Needing.{split_low, range, listed_low, listed_needs, premises_asked, needs_start, needs_next, no_split, with_split}
+use Rattle.std.proofs.lemmas.Map.Keys.{ge_from_not_lt}
+use Rattle.calculus.proofs.Bools.{not_t}
+use Rattle.constraints.proofs.Decoding.{list_set}
+use Rattle.marks.proofs.Needing.{premises_asked, needs_start, needs_next, no_split, with_split, listed_needs}
 use Rattle.marks.proofs.needed.Goals as goal
 
-pub bounds-problem-at : goal.bounds-problem-at
-bounds-problem-at c = let w = two_operands _ _ _ c.requires.0 in omega arith
-
 pub loop-j-init : goal.loop-j-init
-loop-j-init c = needs_start _ c.requires c.in-Related.is c.span_of-span.ensures
+loop-j-init c = rw c.into_iter-j-iterator.ensures.into_iter_gives (needs_start _ _ _ _ c.span_of-j-items.ensures)
 
 pub premises-found-requires : goal.premises-found-requires
-premises-found-requires c = premises_asked _ c.requires c.in-Related.is c.span_of-span.ensures c.loop-j.invariant c.loop-j-test.true
+premises-found-requires c =
+    let t = c.in-Some.ensures.steps in
+    rw t.1.1 (premises_asked _ _ _ _ c.loop-j.invariant (rw c.in-Related.is at c.requires) (omega (arith, t.1.0)))
 
 pub loop-j-preserved : goal.loop-j-preserved
-loop-j-preserved c = needs_next _ c.requires c.in-Related.is c.loop-j.invariant c.premises-found.ensures
+loop-j-preserved c =
+    let t = c.in-Some.ensures.steps in
+    rw (t.0, t.1.2) (needs_next _ _ _ _ c.loop-j.invariant (rw t.1.1 at c.premises-found.ensures))
 
-pub bit_at-requires-then-rest : goal.bit_at-requires-then-rest
-bit_at-requires-then-rest c = omega (arith, (split_low (range _ c.requires c.in-Related.is) c.split_of.ensures).0)
+pub returns-then-not-is_empty : goal.returns-then-not-is_empty
+returns-then-not-is_empty c = λ es. rw c.in-Related.is (with_split _ _ _ _ c.loop-j.invariant (omega (arith, c.in-None.ensures.steps.1.0)) c.span_of.ensures (rw c.in-Related.is at c.requires) c.split_of.ensures c.bit_at-then-not-is_empty.ensures c.bit_at-then-not-is_empty-2.ensures)
 
-pub returns-then-rest : goal.returns-then-rest
-returns-then-rest c = with_split _ c.requires c.in-Related.is c.span_of-span.ensures c.loop-j-test.false c.loop-j.invariant c.span_of-rest.ensures c.split_of.ensures c.bit_at-then-rest.ensures c.bit_at-then-rest-2.ensures
-
-pub returns-else-rest : goal.returns-else-rest
-returns-else-rest c = no_split _ c.requires c.in-Related.is c.span_of-span.ensures c.loop-j-test.false c.loop-j.invariant c.span_of-rest.ensures c.if-rest.false
-
-pub bit_at-requires-in-Listed : goal.bit_at-requires-in-Listed
-bit_at-requires-in-Listed c = omega (arith, listed_low _ c.requires c.in-Listed.is)
+pub returns-else-not-is_empty : goal.returns-else-not-is_empty
+returns-else-not-is_empty c = λ es. rw c.in-Related.is (no_split _ _ _ _ c.loop-j.invariant (omega (arith, c.in-None.ensures.steps.1.0)) c.span_of.ensures (ge_from_not_lt _ _ (not_t _ (rw c.is_empty.ensures at c.if-not-is_empty.false))))
 
 pub returns-in-Listed : goal.returns-in-Listed
-returns-in-Listed c = listed_needs _ c.requires _ c.in-Listed.is c.bit_at-in-Listed.ensures c.bit_at-in-Listed-2.ensures c.bit_at-in-Listed-3.ensures
+returns-in-Listed c = λ es. rw c.in-Listed.is (listed_needs _ (list_set _ c.in-Listed.is c.requires) c.bit_at-in-Listed.ensures c.bit_at-in-Listed-2.ensures c.bit_at-in-Listed-3.ensures es)

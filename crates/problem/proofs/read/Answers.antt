@@ -1,45 +1,82 @@
--- Reading the whole is reading what is left after each section: each return refuses the length or a section, or is the table of what follows the sections.
-use Rattle.std.proofs.Common.{arith}
-use Rattle.problem.proofs.Reading.{table_long, constants_stand, variables_stand, sets_stand, refused_constants, refused_variables, refused_sets, third_end, read_on}
+-- Each return is what reading gives there: a refusal by the first question that is answered "no", or the table where none is.
+use Rattle.std.proofs.Common.{arith, refl}
+use Rattle.std.proofs.lemmas.Result.{err_from_is_err_and}
+use Rattle.calculus.proofs.ReadValid.{read_long}
+use Rattle.problem.proofs.Reading.{three, constants_refused, variables_refused, sets_refused, no_constraint_count, many_constraints, constraint_refused, left_over, many_terms, accepted, opens}
 use Rattle.problem.proofs.read.Goals as goal
 
-pub returns-then-problem-gt-MOST_BYTES : goal.returns-then-problem-gt-MOST_BYTES
-returns-then-problem-gt-MOST_BYTES c = table_long c.args.problem.now _ c.if-problem-gt-MOST_BYTES.true c.refused.ensures
+pub returns-then-bytes-gt-MOST_BYTES : goal.returns-then-bytes-gt-MOST_BYTES
+returns-then-bytes-gt-MOST_BYTES c = rw (read_long c.args.bytes.now c.if-bytes-gt-MOST_BYTES.true) refl
 
-pub returns-then-constants-ne0 : goal.returns-then-constants-ne0
-returns-then-constants-ne0 c = refused_constants c.args.problem.now c.if-problem-gt-MOST_BYTES.false _ c.constants_at-constants.ensures _ c.if-constants-ne0.true c.refused-then-constants-ne0.ensures
+pub returns-in_err-constants : goal.returns-in_err-constants
+returns-in_err-constants c =
+    let p = err_from_is_err_and c.from_residual.result c.from_residual.ensures.1 in
+    rw (p.1, p.2, constants_refused c.args.bytes.now c.if-bytes-gt-MOST_BYTES.false _ c.in_err-constants.ensures) refl
 
-pub variables_at-variables-requires : goal.variables_at-variables-requires
-variables_at-variables-requires c =
-    let h = constants_stand c.args.problem.now _ c.constants_at-constants.ensures c.if-constants-ne0.false in
-    (h.0.fits, c.if-problem-gt-MOST_BYTES.false)
+pub returns-in_err-variables : goal.returns-in_err-variables
+returns-in_err-variables c =
+    let p = err_from_is_err_and c.from_residual-in_err-variables.result c.from_residual-in_err-variables.ensures.1 in
+    rw (p.1, p.2, variables_refused c.args.bytes.now c.if-bytes-gt-MOST_BYTES.false _ c.in_ok-constants.ensures _ c.in_err-variables.ensures) refl
 
-pub returns-then-variables-ne0 : goal.returns-then-variables-ne0
-returns-then-variables-ne0 c =
-    refused_variables c.args.problem.now c.if-problem-gt-MOST_BYTES.false _ c.constants_at-constants.ensures c.if-constants-ne0.false _ c.variables_at-variables.ensures _ c.if-variables-ne0.true c.refused-then-variables-ne0.ensures
+pub returns-in_err-sets : goal.returns-in_err-sets
+returns-in_err-sets c =
+    let p = err_from_is_err_and c.from_residual-in_err-sets.result c.from_residual-in_err-sets.ensures.1 in
+    rw (p.1, p.2, sets_refused c.args.bytes.now c.if-bytes-gt-MOST_BYTES.false _ c.in_ok-constants.ensures _ c.in_ok-variables.ensures _ c.in_err-sets.ensures) refl
 
-pub sets_at-sets-requires : goal.sets_at-sets-requires
-sets_at-sets-requires c =
-    let h = variables_stand c.args.problem.now c.variables_at-variables.result c.constants_at-constants.result.next c.variables_at-variables.ensures c.if-variables-ne0.false in
-    (h.fits, c.if-problem-gt-MOST_BYTES.false)
+pub returns-in_default : goal.returns-in_default
+returns-in_default c =
+    let t = three c.args.bytes.now c.if-bytes-gt-MOST_BYTES.false _ c.in_ok-constants.ensures _ c.in_ok-variables.ensures c.type_inv.bytes _ c.in_ok-sets.ensures in
+    rw (no_constraint_count c.args.bytes.now _ _ _ _ t c.in_default.ensures.cases) refl
 
-pub returns-then-sets-ne0 : goal.returns-then-sets-ne0
-returns-then-sets-ne0 c =
-    refused_sets c.args.problem.now c.if-problem-gt-MOST_BYTES.false _ c.constants_at-constants.ensures c.if-constants-ne0.false _ c.variables_at-variables.ensures c.if-variables-ne0.false _ c.sets_at-sets.ensures _ c.if-sets-ne0.true c.refused-then-sets-ne0.ensures
+pub returns-then-m-gt-MOST_CONSTRAINTS : goal.returns-then-m-gt-MOST_CONSTRAINTS
+returns-then-m-gt-MOST_CONSTRAINTS c =
+    let t = three c.args.bytes.now c.if-bytes-gt-MOST_BYTES.false _ c.in_ok-constants.ensures _ c.in_ok-variables.ensures c.type_inv.bytes _ c.in_ok-sets.ensures in
+    rw (many_constraints c.args.bytes.now _ _ _ _ t _ _ c.in-Some.ensures.cases.0 c.if-m-gt-MOST_CONSTRAINTS.true) refl
 
-pub table_at-requires : goal.table_at-requires
-table_at-requires c =
-    let bs = c.args.problem.now in
-    let known = c.type_inv.problem in
-    let k = c.constants_at-constants in
-    let v = c.variables_at-variables in
-    let t = c.sets_at-sets in
-    let hk = constants_stand bs k.result k.ensures c.if-constants-ne0.false in
-    let hv = variables_stand bs v.result k.result.next v.ensures c.if-variables-ne0.false in
-    let ht = sets_stand bs t.result v.result.next t.ensures c.if-sets-ne0.false in
-    let end = third_end bs c.if-problem-gt-MOST_BYTES.false k.result k.ensures c.if-constants-ne0.false v.result v.ensures c.if-variables-ne0.false t.result t.ensures c.if-sets-ne0.false in
-    (end, ht.0.fits, c.if-problem-gt-MOST_BYTES.false, omega (arith, hk.0.count, known 0), omega (arith, hv.count, known k.result.next), ht.1, hk.1)
+pub overflow_sub-bytes : goal.overflow_sub-bytes
+overflow_sub-bytes c =
+    let t = three c.args.bytes.now c.if-bytes-gt-MOST_BYTES.false _ c.in_ok-constants.ensures _ c.in_ok-variables.ensures c.type_inv.bytes _ c.in_ok-sets.ensures in
+    omega (arith, t.bytes, c.in-Some.ensures.cases.1)
+
+pub invariant_of-names : goal.invariant_of-names
+invariant_of-names c =
+    let t = three c.args.bytes.now c.if-bytes-gt-MOST_BYTES.false _ c.in_ok-constants.ensures _ c.in_ok-variables.ensures c.type_inv.bytes _ c.in_ok-sets.ensures in
+    record { rising = t.rising; few_constants = omega (arith, t.even, t.few_constants); few_terms = omega (arith, t.even, t.few_constants, t.few_variables); few_sets = t.few_sets }
+
+pub constraints_at-requires : goal.constraints_at-requires
+constraints_at-requires c =
+    let t = three c.args.bytes.now c.if-bytes-gt-MOST_BYTES.false _ c.in_ok-constants.ensures _ c.in_ok-variables.ensures c.type_inv.bytes _ c.in_ok-sets.ensures in
+    (omega (arith, t.bytes, c.in-Some.ensures.cases.1), omega arith, omega (arith, t.even))
+
+pub returns-in_err-found : goal.returns-in_err-found
+returns-in_err-found c =
+    let t = three c.args.bytes.now c.if-bytes-gt-MOST_BYTES.false _ c.in_ok-constants.ensures _ c.in_ok-variables.ensures c.type_inv.bytes _ c.in_ok-sets.ensures in
+    let p = err_from_is_err_and c.from_residual-in_err-found.result c.from_residual-in_err-found.ensures.1 in
+    rw (p.1, p.2, constraint_refused c.args.bytes.now _ _ _ _ t _ _ c.in-Some.ensures.cases.0 c.if-m-gt-MOST_CONSTRAINTS.false _ c.in_err-found.ensures) refl
+
+pub returns-then-found-rest : goal.returns-then-found-rest
+returns-then-found-rest c =
+    let t = three c.args.bytes.now c.if-bytes-gt-MOST_BYTES.false _ c.in_ok-constants.ensures _ c.in_ok-variables.ensures c.type_inv.bytes _ c.in_ok-sets.ensures in
+    rw (left_over c.args.bytes.now _ _ _ _ t _ _ c.in-Some.ensures.cases.0 c.if-m-gt-MOST_CONSTRAINTS.false _ c.in_ok-found.ensures c.if-found-rest.true) refl
+
+pub returns-then-found-gt-MOST_TERMS : goal.returns-then-found-gt-MOST_TERMS
+returns-then-found-gt-MOST_TERMS c =
+    let t = three c.args.bytes.now c.if-bytes-gt-MOST_BYTES.false _ c.in_ok-constants.ensures _ c.in_ok-variables.ensures c.type_inv.bytes _ c.in_ok-sets.ensures in
+    rw (many_terms c.args.bytes.now _ _ _ _ t _ _ c.in-Some.ensures.cases.0 c.if-m-gt-MOST_CONSTRAINTS.false _ c.in_ok-found.ensures c.if-found-rest.false c.if-found-gt-MOST_TERMS.true) refl
+
+pub overflow_cast-table-2 : goal.overflow_cast-table-2
+overflow_cast-table-2 c =
+    let t = three c.args.bytes.now c.if-bytes-gt-MOST_BYTES.false _ c.in_ok-constants.ensures _ c.in_ok-variables.ensures c.type_inv.bytes _ c.in_ok-sets.ensures in
+    omega (arith, t.few_variables)
+
+pub invariant_of-result : goal.invariant_of-result
+invariant_of-result c =
+    let t = three c.args.bytes.now c.if-bytes-gt-MOST_BYTES.false _ c.in_ok-constants.ensures _ c.in_ok-variables.ensures c.type_inv.bytes _ c.in_ok-sets.ensures in
+    let a = accepted c.args.bytes.now _ _ _ _ t _ _ c.in-Some.ensures.cases.0 c.if-m-gt-MOST_CONSTRAINTS.false _ c.in_ok-found.ensures c.if-found-rest.false c.if-found-gt-MOST_TERMS.false in
+    record { opened = opens c.args.bytes.now a.0 _ a.1 a.2; upward = c.term_numbers-numbers.ensures }
 
 pub returns : goal.returns
 returns c =
-    read_on c.args.problem.now c.if-problem-gt-MOST_BYTES.false _ c.constants_at-constants.ensures c.if-constants-ne0.false _ c.variables_at-variables.ensures c.if-variables-ne0.false _ c.sets_at-sets.ensures c.if-sets-ne0.false _ c.table_at.ensures
+    let t = three c.args.bytes.now c.if-bytes-gt-MOST_BYTES.false _ c.in_ok-constants.ensures _ c.in_ok-variables.ensures c.type_inv.bytes _ c.in_ok-sets.ensures in
+    let a = accepted c.args.bytes.now _ _ _ _ t _ _ c.in-Some.ensures.cases.0 c.if-m-gt-MOST_CONSTRAINTS.false _ c.in_ok-found.ensures c.if-found-rest.false c.if-found-gt-MOST_TERMS.false in
+    rw a.1 (refl, a.2)

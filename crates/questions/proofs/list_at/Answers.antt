@@ -1,19 +1,27 @@
 -- Too few bytes are refused by question 2, a set or a term out of bounds by question 8; any other list is accepted.
-use Rattle.std.proofs.Common.{refl, ◌∙◌}
-use Rattle.questions.proofs.Answers.{list_short, list_cut, list_set, list_terms, list_good}
+use Rattle.std.proofs.Common.{arith, true, false, ltb, sym, refl, ◌∙◌, rules, lt-ltb, le-ltb}
+use Rattle.std.proofs.lemmas.Iterator.{YieldsList-from_slice}
+use Rattle.std.proofs.lemmas.Iterator.Search.{all_from_yields_List}
+use borrow.Author.Tests.{tests}
+use Rattle.questions.proofs.Returns.{list_short, list_cut, list_is}
 use Rattle.questions.proofs.list_at.Goals as goal
+use Rattle.questions.proofs.list_at.Goals.{else-set-names-via-then-set-names+else-all, else-set-names-via-else-set-names}
 
-pub returns-then-problem-at-lt2 : goal.returns-then-problem-at-lt2
-returns-then-problem-at-lt2 c = c.refused.ensures ∙ list_short _ _ _ _ c.requires c.if-problem-at-lt2.true
+pub returns-in_default : goal.returns-in_default
+returns-in_default c = list_short _ _ _ c.in_default.len_below
 
-pub returns-then-problem-a : goal.returns-then-problem-a
-returns-then-problem-a c = c.refused-then-problem-a.ensures ∙ list_cut _ _ _ _ c.if-problem-at-lt2.false c.if-problem-a.true
+pub returns-in_default-get : goal.returns-in_default-get
+returns-in_default-get c = list_cut _ _ _ c.in-len2-up.len_at_least _ refl (grind (arith, c.in_default-get.ensures.lookup.0))
 
-pub returns-then-sizes-problem : goal.returns-then-sizes-problem
-returns-then-sizes-problem c = c.refused-then-sizes-problem.ensures ∙ list_set _ _ _ _ c.if-problem-at-lt2.false c.if-problem-a.false c.if-sizes-problem.true
-
-pub returns-then-all_below : goal.returns-then-all_below
-returns-then-all_below c = c.accepted.ensures ∙ list_good _ _ _ _ c.if-problem-at-lt2.false c.if-problem-a.false c.if-sizes-problem.false _ refl _ c.all_below.ensures c.if-all_below.true
+pub returns-then-all : goal.returns-then-all
+returns-then-all c =
+    let found = all_from_yields_List (λ e. ltb e c.args.names.now.nameable) _ _ c.all.result c.all.ensures.ran (YieldsList-from_slice c.in-Some.entries.now cc) (λ x b q k. search (rules, tests)) in
+    list_is _ _ _ c.in-len2-up.len_at_least _ refl c.in-Some.ensures.lookup.0.1 c.in-Some.entries.now c.in-Some.ensures.lookup.0.2 true true (lt-ltb _ _ c.if-set-names.true) (sym found ∙ c.if-all.true)
 
 pub returns : goal.returns
-returns c = c.refused-2.ensures ∙ list_terms _ _ _ _ c.if-problem-at-lt2.false c.if-problem-a.false c.if-sizes-problem.false _ refl _ c.all_below.ensures c.if-all_below.false
+returns c = elim c.else-set-names.branch [
+  | else-set-names-via-then-set-names+else-all w ↦
+      let found = all_from_yields_List (λ e. ltb e c.args.names.now.nameable) _ _ w.all.result w.all.ensures.ran (YieldsList-from_slice c.in-Some.entries.now cc) (λ x b q k. search (rules, tests)) in
+      list_is _ _ _ c.in-len2-up.len_at_least _ refl c.in-Some.ensures.lookup.0.1 c.in-Some.entries.now c.in-Some.ensures.lookup.0.2 true false (lt-ltb _ _ w.if-set-names.true) (sym found ∙ w.if-all.false)
+  | else-set-names-via-else-set-names w ↦ list_is _ _ _ c.in-len2-up.len_at_least _ refl c.in-Some.ensures.lookup.0.1 c.in-Some.entries.now c.in-Some.ensures.lookup.0.2 false _ (le-ltb _ _ w.if-set-names.false) refl
+]

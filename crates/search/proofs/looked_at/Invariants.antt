@@ -1,9 +1,11 @@
--- It begins with constraints of the scope, for splits with those that have one. What was dropped of these is idle; the mask of what is left to test falls.
-use Rattle.search.proofs.Narrowing.{Begins, Dropping}
+-- What was dropped is idle, and what is left to test is of the problem.
+use Rattle.std.proofs.Common.{◌≡◌, true, ℕ, ◌<◌}
+use Rattle.calculus.specs.Lists.{bit}
+use Rattle.search.specs.Narrowed.{Narrows}
 use Rattle.search.proofs.looked_at.Given as goal
 
-abbrev pub invariant-loop-left : goal.invariant-loop-left
-invariant-loop-left l = Begins l.split l.problem l.fn.scope.among l.initial.kept × Dropping l.split l.problem l.parents l.rows l.initial.kept l.kept l.left
-
-abbrev pub decreases-loop-left : goal.decreases-loop-left
-decreases-loop-left l = l.left
+abbrev pub invariant-loop-n : goal.invariant-loop-n
+invariant-loop-n l = record {
+  narrows : Narrows l.scope.split l.run.problem.bytes.now l.b.parents l.b.rows l.scope.among l.kept;
+  there : (i : ℕ) → bit l.n-iterator.0 i ≡ true → i < l.run.problem.table.constraints;
+}

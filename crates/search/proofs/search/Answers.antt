@@ -1,68 +1,51 @@
--- The constraint whose turn it is stands at its offset. The return at the end rests on nothing being left, the one from within on the bit that is set.
-use Rattle.std.proofs.Common.{arith}
+-- The turn of a constraint, of a rule, of a root; and the two returns.
+use Rattle.std.proofs.Common.{arith, refl}
+use Rattle.problem.proofs.Access.{opened_sizes, constraint_count}
 use Rattle.search.proofs.Narrowing.{quiet_within}
-use Rattle.marks.proofs.Offsets.{turn_of, few_terms}
-use Rattle.search.proofs.Finding.{search_start, in_table, search_over, no_rules, rules_start, next_constraint, no_roots, roots_start, next_rule, next_root, search_hit}
-use Rattle.search.proofs.search.Goals.{then-fit-ne0+else-loop-h-test, else-fit-ne0, then-span-end+else-loop-j-test, else-span-end}
+use Rattle.search.proofs.Finding.{rules_start, search_over, next_constraint, asked, roots_start, next_rule, next_root, search_hit}
 use Rattle.search.proofs.search.Goals as goal
 
-pub looked_at-left-requires : goal.looked_at-left-requires
-looked_at-left-requires c = let r = c.requires in (r.0.words_are, r.1, λ i e. turn_of r.0.tabled (r.2 i e))
-
 pub search-init : goal.search-init
-search-init c = search_start _ _ c.args.scope.split c.requires.0.tabled (omega arith) (λ i e. c.requires.2 i (c.looked_at-left.ensures.within i e))
+search-init c = rw c.into_iter-n-iterator.ensures.into_iter_gives (record { nothing = refl; there = λ i e. c.requires.1 i (c.looked_at-looked.ensures.within i e); quiet = λ b z q. q })
 
-pub bounds-offsets-n : goal.bounds-offsets-n
-bounds-offsets-n c = let d = c.requires.0.tabled in let t = turn_of d (in_table d c.search.invariant c.search-test.true) in omega arith
+pub entries_of-entries-requires : goal.entries_of-entries-requires
+entries_of-entries-requires c = (c.search.invariant.there c.in-Some.n c.in-Some.ensures.steps.set, c.decode-l.ensures)
 
-pub bounds-problem-at : goal.bounds-problem-at
-bounds-problem-at c = let d = c.requires.0.tabled in let t = turn_of d (in_table d c.search.invariant c.search-test.true) in omega (arith, t.in_bytes)
-
-pub bounds-witnesses-n : goal.bounds-witnesses-n
-bounds-witnesses-n c = let d = c.requires.0.tabled in let t = turn_of d (in_table d c.search.invariant c.search-test.true) in omega arith
-
-pub decode_at-l-requires : goal.decode_at-l-requires
-decode_at-l-requires c = let d = c.requires.0.tabled in let t = turn_of d (in_table d c.search.invariant c.search-test.true) in (t.stands, t.witness)
-
-pub entries_at-entries-requires : goal.entries_at-entries-requires
-entries_at-entries-requires c =
-    let d = c.requires.0.tabled in
-    let t = turn_of d (in_table d c.search.invariant c.search-test.true) in
-    (t.stands, c.requires.0.numbers_are, c.decode_at-l.ensures)
-
-pub loop-j-init : goal.loop-j-init
-loop-j-init c =
-    let k = in_table c.requires.0.tabled c.search.invariant c.search-test.true in
-    rules_start c.search.invariant.nothing c.requires.0 c.requires.1 k c.span_of-span.ensures c.entries_at-entries.ensures
-
-pub loop-h-init : goal.loop-h-init
-loop-h-init c = roots_start c.loop-j.invariant c.fitting-fit.ensures c.loop-j-test.true
-
-pub loop-h-preserved : goal.loop-h-preserved
-loop-h-preserved c = next_root c.loop-h.invariant c.loop-h-test.true c.if-fit-h-eq1.false
-
-pub loop-j-preserved : goal.loop-j-preserved
-loop-j-preserved c =
-    elim c.if-fit-ne0.branch [
-      | then-fit-ne0+else-loop-h-test w ↦ next_rule w.loop-h.invariant w.loop-h-test.false w.found-is
-      | else-fit-ne0 w ↦ no_roots c.loop-j.invariant c.fitting-fit.ensures w.if-fit-ne0.false w.found-is
-    ]
+pub loop-rule-init : goal.loop-rule-init
+loop-rule-init c =
+    let r = c.args.run.now in
+    let t = c.search.invariant.there c.in-Some.n c.in-Some.ensures.steps.set in
+    rw c.into_iter-rule-iterator.ensures.into_iter_gives (rules_start r.problem.table c.in-Some.n c.search.invariant.nothing r.problem.opened r.words_are c.requires.0 t c.span_of-rule-items.ensures c.entries_of-entries.ensures)
 
 pub search-preserved : goal.search-preserved
-search-preserved c =
-    let d = c.requires.0.tabled in
-    let some = c.search-test.true in
-    elim c.if-span-end.branch [
-      | then-span-end+else-loop-j-test w ↦ next_constraint c.search.invariant some w.loop-j.invariant w.loop-j-test.false w.found-is
-      | else-span-end w ↦ no_rules c.search.invariant some (turn_of d (in_table d c.search.invariant some)) c.span_of-span.ensures w.if-span-end.false w.found-is
-    ]
+search-preserved c = next_constraint c.search.invariant c.in-Some.ensures.steps c.loop-rule.invariant (omega (arith, c.in-None-rule.ensures.steps.1.0))
 
-pub returns-after-search : goal.returns-after-search
-returns-after-search c =
-    λ b z q. search_over c.search.invariant c.search-test.false b z
-    (quiet_within _ c.args.totals.terms b (few_terms c.requires.0.tabled) c.looked_at-left.ensures z q)
+pub fitting-fit-requires : goal.fitting-fit-requires
+fitting-fit-requires c =
+    let t = c.in-Some-rule.ensures.steps in
+    (c.requires.0, rw t.1.1 (asked c.loop-rule.invariant (omega (arith, t.1.0))))
 
-pub returns-then-fit-h-eq1 : goal.returns-then-fit-h-eq1
-returns-then-fit-h-eq1 c =
-    λ b z q. search_hit c.search.invariant c.search-test.true c.loop-h.invariant c.loop-h-test.true c.if-fit-h-eq1.true b z
-    (quiet_within _ c.args.totals.terms b (few_terms c.requires.0.tabled) c.looked_at-left.ensures z q)
+pub loop-h-init : goal.loop-h-init
+loop-h-init c =
+    let t = c.in-Some-rule.ensures.steps in
+    rw (c.into_iter-h-iterator.ensures.into_iter_gives, t.1.1) (roots_start c.loop-rule.invariant (rw t.1.1 at c.fitting-fit.ensures))
+
+pub loop-rule-preserved : goal.loop-rule-preserved
+loop-rule-preserved c =
+    let t = c.in-Some-rule.ensures.steps in
+    rw (t.0, t.1.2) (next_rule c.loop-rule.invariant (rw t.1.1 at c.loop-h.invariant) c.in-None-h.ensures.steps.0)
+
+pub loop-h-preserved : goal.loop-h-preserved
+loop-h-preserved c = next_root c.loop-h.invariant c.in-Some-h.ensures.steps c.if-h-run.false
+
+pub returns-in-None : goal.returns-in-None
+returns-in-None c =
+    let r = c.args.run.now.problem in
+    λ b z q. search_over c.search.invariant c.in-None.ensures.steps.0 b z (quiet_within _ r.table.terms b (opened_sizes _ _ r.opened).2 c.looked_at-looked.ensures z q)
+
+pub returns-then-h-run : goal.returns-then-h-run
+returns-then-h-run c =
+    let r = c.args.run.now.problem in
+    let t = c.in-Some-rule.ensures.steps in
+    λ b z q. rw t.1.1 (search_hit c.search.invariant c.in-Some.ensures.steps c.loop-rule.invariant (omega (arith, t.1.0)) (rw t.1.1 at c.loop-h.invariant) c.in-Some-h.ensures.steps c.if-h-run.true (omega arith) (omega arith) c.low_bits.ensures
+    (λ i e. omega (arith, constraint_count r.bytes.now r.table r.opened, c.requires.1 i (c.looked_at-looked.ensures.within i e))) b z (quiet_within _ r.table.terms b (opened_sizes _ _ r.opened).2 c.looked_at-looked.ensures z q))

@@ -1,15 +1,13 @@
--- Over the constraints: nothing is found yet, and those that are not left are idle; the mask of what is left falls. Over the rules: those before rule j do not apply. Over the roots: rule j applies at none before h.
+-- Over the constraints: nothing is found yet, and those that are not left are idle. Over the rules: those before the next do not apply. Over the roots: the rule applies first at the lowest that is left.
+use Rattle.std.proofs.Common.{get_or}
 use Rattle.search.proofs.Finding.{AtMask, AtRule, AtRoot}
 use Rattle.search.proofs.search.Given as goal
 
 abbrev pub invariant-search : goal.invariant-search
-invariant-search l = AtMask l.split l.terms l.problem l.parents l.rows l.initial.left l.left l.found
+invariant-search l = AtMask l.scope.split l.run.problem.table.terms l.run.problem.bytes.now l.b.parents l.b.rows l.run.problem.table.constraints l.looked l.n-iterator.0 l.found
 
-abbrev pub decreases-search : goal.decreases-search
-decreases-search l = l.left
-
-abbrev pub invariant-loop-j : goal.invariant-loop-j
-invariant-loop-j l = AtRule l.split l.terms l.problem l.parents l.rows l.n l.j l.end l.entries l.bits l.l l.found
+abbrev pub invariant-loop-rule : goal.invariant-loop-rule
+invariant-loop-rule l = AtRule l.scope.split l.run.problem.table.terms l.run.problem.bytes.now l.b.parents l.b.rows l.n l.rule-iterator.start l.rule-iterator.end l.entries (get_or l.run.words l.n 0) l.l l.found
 
 abbrev pub invariant-loop-h : goal.invariant-loop-h
-invariant-loop-h l = AtRoot l.split l.terms l.problem l.parents l.rows l.n l.j l.end l.entries l.bits l.l l.fit l.h l.found
+invariant-loop-h l = AtRoot l.scope.split l.run.problem.table.terms l.run.problem.bytes.now l.b.parents l.b.rows l.n l.rule l.h-iterator.0 l.found

@@ -1,14 +1,7 @@
--- A turn writes the next number; at the return all are written.
-use Rattle.std.proofs.Common.{arith, ◌∙◌, ap, List, ℕ, set, refl}
-use Rattle.calculus.specs.Limits.{most_terms}
-use Rattle.slices.proofs.Counting.{count_more, count_done}
+-- Each of the 64 elements is its own index.
+use Rattle.std.proofs.Common.{arith}
+use Rattle.std.proofs.lemmas.List.FromFn.{fill_by_all}
 use Rattle.slices.proofs.term_numbers.Goals as goal
 
-pub loop-t-init : goal.loop-t-init
-loop-t-init c = refl
-
-pub loop-t-preserved : goal.loop-t-preserved
-loop-t-preserved c = let v = c.loop-t in ap (λ (l : List ℕ). set l v.t v.t) v.invariant ∙ count_more most_terms v.t (omega arith)
-
 pub returns : goal.returns
-returns c = let v = c.loop-t in v.invariant ∙ count_done most_terms v.t (omega arith) (omega arith)
+returns c = let made = c.from_fn.ensures.items in fill_by_all (λ t. t) _ 64 0 made.long (λ t h. let m = (made.at t 0 h).2.met in omega arith)

@@ -1,5 +1,5 @@
 -- The start is sound, its lists are prepared, and working it is the calculus's run.
-use Rattle.std.proofs.Common.{refl, arith, rules}
+use Rattle.std.proofs.Common.{refl, arith}
 use Rattle.branch.proofs.Laws.{start_held}
 use Rattle.branch.proofs.Rowing.{start_sound}
 use Rattle.problem.proofs.Access.{opened_sizes}
@@ -8,19 +8,19 @@ use Rattle.solver.proofs.Waking.{all_ready}
 use Rattle.solver.proofs.Running.{begun_fine, runs}
 use Rattle.solver.proofs.solve.Goals as goal
 
-pub start-b-requires : goal.start-b-requires
-start-b-requires c = let o = c.requires.0 in omega (arith, constants_few _ _ o, terms_few _ _ o)
-
 pub low_bits-all-requires : goal.low_bits-all-requires
-low_bits-all-requires c = omega (arith, (opened_sizes _ _ c.requires.0).0)
+low_bits-all-requires c = omega (arith, (opened_sizes _ _ c.args.problem.now.opened).0)
 
-pub work-requires : goal.work-requires
-work-requires c =
-    let p = c.requires in (
-      record { tabled = record { opened = p.0; sized = search rules; sized_witnesses = search rules }; numbers_are = c.term_numbers-numbers.ensures; words_are = c.prepare-words.ensures },
-      all_ready p.0 (start_sound _ _ c.start-b.ensures) c.low_bits-all.ensures,
-      record { on = refl; fine = begun_fine _ _ _ _ p.1 p.2; no_terms = λ _. refl },
-    )
+pub start-start-requires : goal.start-start-requires
+start-start-requires c = let o = c.args.problem.now.opened in omega (arith, constants_few _ _ o, terms_few _ _ o)
+
+pub work-end-requires : goal.work-end-requires
+work-end-requires c =
+    rw (c.prepare.ensures.0, c.prepare.ensures.1)
+    (all_ready c.args.problem.now.opened (start_sound _ _ c.start-start.ensures) c.low_bits-all.ensures, record { fine = begun_fine _ _ _ _ c.requires.0 c.requires.1; no_terms = λ _. refl })
 
 pub returns : goal.returns
-returns c = runs _ _ c.requires.0 _ _ (start_held _ _ c.start-b.ensures) _ _ _ c.requires.2 c.work.ensures
+returns c = λ prob p.
+    let w = rw (c.prepare.ensures.0, c.prepare.ensures.1) at c.work-end.ensures.comes_to in
+    let r = runs _ _ c.args.problem.now.opened _ _ (start_held _ _ c.start-start.ensures) _ _ _ c.requires.1 w prob p in
+    grind arith

@@ -1,8 +1,6 @@
--- The bits found are those of the roots that clash with one of the first k literals.
-use Rattle.std.proofs.Common.{◌≡◌, ℕ, get_or}
-use Rattle.calculus.specs.Lists.{bit}
-use Rattle.step.specs.Left.{clashes}
+-- The roots apart are those found, and those that clash with a literal that is left.
+use Rattle.step.proofs.Joining.{Gathers}
 use Rattle.step.proofs.apart.Given as goal
 
 abbrev pub invariant-loop-k : goal.invariant-loop-k
-invariant-loop-k l = (h : ℕ) → bit l.found h ≡ clashes l.rows (get_or l.insides l.p.0 0) (get_or l.outsides l.p.0 0) l.k h
+invariant-loop-k l = Gathers l.fn.b l.fn.p.0 l.found l.k-iterator.0

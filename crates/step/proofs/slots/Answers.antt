@@ -3,8 +3,8 @@ use Rattle.std.proofs.Common.{sym, ◌∙◌}
 use Rattle.step.proofs.Children.{slots_20, slots_other}
 use Rattle.step.proofs.slots.Goals as goal
 
-pub returns-then-j-eq20 : goal.returns-then-j-eq20
-returns-then-j-eq20 c = sym (slots_20 _ _ c.requires _ c.if-j-eq20.true)
+pub returns-then-at-eq20 : goal.returns-then-at-eq20
+returns-then-at-eq20 c = sym (slots_20 _ _ c.requires _ c.if-at-eq20.true)
 
 pub returns : goal.returns
-returns c = c.count_of.ensures ∙ sym (slots_other _ _ c.requires _ c.if-j-eq20.false)
+returns c = c.count_of.ensures ∙ sym (slots_other _ _ c.requires _ c.if-at-eq20.false)

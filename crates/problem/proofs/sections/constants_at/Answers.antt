@@ -1,24 +1,22 @@
 -- What `section_at` refuses is refused, else `constants_ok` decides.
-use Rattle.std.proofs.Common.{arith, sym, ◌∙◌}
-use Rattle.problem.specs.Sections.{constants_test}
-use Rattle.questions.specs.Questions.{constants_of}
-use Rattle.problem.proofs.SectionLaws.{found, passes_on, answers_yes, answers_no}
+use Rattle.std.proofs.Common.{refl, sym, ◌∙◌}
+use Rattle.std.proofs.lemmas.Result.{err_from_is_err_and}
+use Rattle.problem.specs.Sections.{section, counted, constants_test}
+use Rattle.problem.proofs.SectionLaws.{asked_none, asked_yes, asked_no}
 use Rattle.problem.proofs.sections.constants_at.Goals as goal
 
-pub returns-then-part-ne0 : goal.returns-then-part-ne0
-returns-then-part-ne0 c = passes_on 2 3 constants_test c.args.problem.now 0 _ c.section_at-part.ensures c.if-part-ne0.true
+pub returns-in_err-constants : goal.returns-in_err-constants
+unfolding section
+returns-in_err-constants c =
+    let p = err_from_is_err_and c.from_residual.result c.from_residual.ensures.1 in
+    rw (p.1, p.2) (asked_none 2 3 constants_test (counted 2 c.args.bytes.now) _ c.in_err-constants.ensures)
 
-pub constants_ok-requires : goal.constants_ok-requires
-constants_ok-requires c =
-    let f = found 2 c.args.problem.now 0 c.section_at-part.result c.section_at-part.ensures c.if-part-ne0.false in
-    omega (arith, f.0.count, f.0.next, f.0.fits, c.type_inv.problem 0)
-
-pub returns-then-constants_ok : goal.returns-then-constants_ok
-unfolding constants_of
-returns-then-constants_ok c =
-    answers_yes 2 3 constants_test c.args.problem.now 0 _ c.section_at-part.ensures c.if-part-ne0.false (sym c.constants_ok.ensures ∙ c.if-constants_ok.true)
+pub returns-then-not-constants_ok : goal.returns-then-not-constants_ok
+unfolding section
+returns-then-not-constants_ok c =
+    asked_no 2 3 constants_test (counted 2 c.args.bytes.now) _ c.in_ok-constants.ensures _ refl (λ n h. sym c.constants_ok.ensures ∙ c.if-not-constants_ok.true)
 
 pub returns : goal.returns
-unfolding constants_of
+unfolding section
 returns c =
-    answers_no 2 3 constants_test c.args.problem.now 0 _ c.section_at-part.ensures c.if-part-ne0.false _ c.stopped.ensures (sym c.constants_ok.ensures ∙ c.if-constants_ok.false)
+    asked_yes 2 3 constants_test (counted 2 c.args.bytes.now) _ c.in_ok-constants.ensures (λ n h. sym c.constants_ok.ensures ∙ c.if-not-constants_ok.false)

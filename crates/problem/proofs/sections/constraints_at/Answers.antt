@@ -1,36 +1,29 @@
--- A turn reads one constraint; the returns rest on a constraint that is refused, or on none being left.
-use Rattle.std.proofs.Common.{arith, sym, ◌∙◌}
-use Rattle.questions.specs.Questions.{constants_of}
-use Rattle.questions.proofs.Constants.{constants_length}
-use Rattle.problem.proofs.ConstraintSteps.{uses_one, one_goes, fill_start, fill_again, fill_stop, fill_end}
+-- A turn reads one constraint, and the returns rest on one that is refused, or on none being left.
+use Rattle.std.proofs.Common.{arith}
+use Rattle.std.proofs.lemmas.Result.{err_from_is_err_and}
+use Rattle.calculus.specs.Reading.{words}
+use Rattle.problem.proofs.ConstraintSteps.{tail_is, one_refused, one_read, ends_all, ends_more, rest_refused}
 use Rattle.problem.proofs.sections.constraints_at.Goals as goal
 
-pub loop-i-init : goal.loop-i-init
-loop-i-init c =
+pub loop-line-init : goal.loop-line-init
+loop-line-init c =
     let a = c.args in
-    let p = c.requires in
-    let k = constants_length a.problem.now a.sizes.constants p.3 in
-    (p.0, omega arith, fill_start (constants_of a.problem.now a.sizes.constants) a.sizes.nameable a.sizes.sets a.problem.now p.8 (omega (arith, k, p.5)) a.at a.m a.sizes.nameable p.2)
+    let n = a.names.now in
+    (omega arith, omega arith, ends_all (words n.constants.now) n.nameable n.sets a.bytes.now a.at a.m n.rising c.requires.2 c.requires.1)
 
-pub returns-then-one-ne0 : goal.returns-then-one-ne0
-returns-then-one-ne0 c =
+pub returns-in_err-one : goal.returns-in_err-one
+returns-in_err-one c =
     let a = c.args in
-    let v = c.loop-i in
-    let k = c.constraint_at-one in
-    c.no_tables.ensures ∙ sym (v.invariant.2 ∙ fill_stop (constants_of a.problem.now a.sizes.constants) a.sizes.nameable a.sizes.sets a.problem.now v.next v.w v.i a.m v.offsets v.witnesses k.result k.ensures c.if-one-ne0.true c.loop-i-test.true)
+    let n = a.names.now in
+    let v = c.loop-line in
+    let p = err_from_is_err_and c.from_residual.result c.from_residual.ensures.1 in
+    let e = one_refused (words n.constants.now) n.nameable n.sets a.bytes.now v.length v.terms _ (rw (tail_is a.bytes.now v.length) at c.in_err-one.ensures) in
+    v.invariant.2 _ (rw (p.1, p.2) (rest_refused (words n.constants.now) n.nameable n.sets a.bytes.now a.at a.m v.length v.terms v.line v.lines _ e c.loop-line-test.true))
 
-pub loop-i-preserved : goal.loop-i-preserved
-loop-i-preserved c =
+pub loop-line-preserved : goal.loop-line-preserved
+loop-line-preserved c =
     let a = c.args in
-    let p = c.requires in
-    let v = c.loop-i in
-    let k = c.constraint_at-one in
-    let n = constants_length a.problem.now a.sizes.constants p.3 in
-    let o = one_goes (constants_of a.problem.now a.sizes.constants) a.sizes.nameable a.sizes.sets a.problem.now v.next v.w k.result k.ensures p.8 (omega (arith, n, p.5)) v.invariant.0 c.if-one-ne0.false in
-    (o.fits, omega (arith, o.witness, uses_one o.this, v.invariant.1), v.invariant.2 ∙ fill_again (constants_of a.problem.now a.sizes.constants) a.sizes.nameable a.sizes.sets a.problem.now v.next v.w v.i a.m v.offsets v.witnesses k.result c.loop-i-test.true o)
-
-pub returns : goal.returns
-returns c =
-    let a = c.args in
-    let v = c.loop-i in
-    sym (v.invariant.2 ∙ fill_end (constants_of a.problem.now a.sizes.constants) a.sizes.nameable a.sizes.sets a.problem.now v.next v.w v.i a.m v.offsets v.witnesses v.invariant.0 c.loop-i-test.false)
+    let n = a.names.now in
+    let v = c.loop-line in
+    let h = one_read (words n.constants.now) n.nameable n.sets a.bytes.now v.length v.terms n.rising c.requires.2 _ (rw (tail_is a.bytes.now v.length) at c.in_ok-one.ensures) v.invariant.0 in
+    (h.fits, omega arith, ends_more (words n.constants.now) n.nameable n.sets a.bytes.now a.at a.m v.length v.terms v.line v.lines _ h c.loop-line-test.true v.invariant.2)

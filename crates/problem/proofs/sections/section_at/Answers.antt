@@ -1,14 +1,14 @@
--- No count byte is there, too few bytes follow it, or all are there.
-use Rattle.problem.proofs.SectionLaws.{no_count, no_bytes, all_there}
+-- No count byte is there, or the bytes that follow it are split.
+use Rattle.std.proofs.Common.{rules}
+use Rattle.calculus.specs.Reading.{◌>>=◌, byte}
+use Rattle.problem.specs.Sections.{counted}
+use Rattle.problem.proofs.SectionLaws.{parts_counted}
 use Rattle.problem.proofs.sections.section_at.Goals as goal
 
-pub returns-then-problem-at : goal.returns-then-problem-at
-returns-then-problem-at c = let a = c.args in no_count a.size a.problem.now a.at _ c.stopped.ensures c.if-problem-at.true
-
-pub returns-then-problem-e : goal.returns-then-problem-e
-returns-then-problem-e c =
-    let a = c.args in
-    no_bytes a.size a.problem.now a.at _ c.stopped-then-problem-e.ensures c.if-problem-at.false c.if-problem-e.true
+pub returns-in_default : goal.returns-in_default
+unfolding counted ◌>>=◌ byte
+returns-in_default c = search rules
 
 pub returns : goal.returns
-returns c = let a = c.args in all_there a.size a.problem.now a.at c.if-problem-e.false
+returns c =
+    rw (c.in-Some.ensures.cases.0, c.ok_or.ensures.value) (parts_counted c.args.size c.in-Some.n.now c.in-Some.rest.now _ c.split_at_checked.ensures.cases)

@@ -1,0 +1,17 @@
+// What a constraint of a problem can name.
+ghost use Rattle.std.specs.Prelude.{◌*◌, ◌≤◌, ◌<◌, length};
+ghost use Rattle.calculus.specs.Limits.{most_sets};
+ghost use Rattle.calculus.specs.Problem.{Rising};
+ghost use Rattle.calculus.specs.Reading.{words};
+
+// The constants, two bytes each; and how many terms and sets a constraint can name, the constants first.
+#[derive(Clone, Copy)]
+pub struct Names<'a> {
+    pub constants: &'a [u8],
+    pub nameable: usize,
+    pub sets: usize,
+    ghost rising: { Rising (words constants.now) },
+    ghost few_constants: { length constants.now < 512 },
+    ghost few_terms: { nameable < 512 },
+    ghost few_sets: { sets ≤ most_sets },
+}
