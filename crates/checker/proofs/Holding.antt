@@ -7,6 +7,7 @@ use native.Mathlib.Omega.{arith}
 use lib.ListN.{length, get_or}
 use lib.IntN.{ℤ}
 use Rattle.std.specs.List.{All}
+use Rattle.std.proofs.Common.{Bor}
 use Rattle.calculus.specs.Lists.{all, Each}
 use Rattle.calculus.specs.Terms.{Term, SetVar, term, set_var}
 use Rattle.calculus.specs.Meaning.{Valuation}
@@ -45,14 +46,14 @@ module _ (s : Seen) (i : ℕ) (l : i < s.problem.table.constraints) where
   constants_count = sym (ap (λ (t : Table). t.constants) shown.shows)
 
   -- of constraint i, which the code has decoded and knows to be k
-  pub named : (es : List Term) (c : code.Constraint) → constraint_of s.problem.bytes.now i ≡ decoded es c → (k : code.Constraint) → c ≡ k → Refers cs (tab.constants + tab.variables) tab.sets (decoded es k)
+  pub named : (c : code.Constraint) → constraint_of s.problem.bytes.now i ≡ decoded c → (k : code.Constraint) → c ≡ k → Refers cs (tab.constants + tab.variables) tab.sets (decoded k)
   unfolding problem_table constraint_of constraints_of
-  named es c e k f =
+  named c e k f =
       let r = shown in
-      let q : get_or r.prob.constraints i no_constraint ≡ decoded es c = rw r.reads at e in
+      let q : get_or r.prob.constraints i no_constraint ≡ decoded c = rw r.reads at e in
       let n : tab.constraints ≡ length r.prob.constraints = ap (λ (t : Table). t.constraints) r.shows in
       let v = each_at (Refers cs (nameable r.prob) (set_count r.prob)) r.prob.constraints no_constraint (read_valid s.problem.bytes.now r.prob r.reads).refers i (omega (arith, l, n)) in
-      subst (Refers cs (tab.constants + tab.variables) tab.sets) (q ∙ ap (decoded es) f)
+      subst (Refers cs (tab.constants + tab.variables) tab.sets) (q ∙ ap decoded f)
       (subst (λ (t : Table). Refers cs (t.constants + t.variables) t.sets (get_or r.prob.constraints i no_constraint)) (sym r.shows) v)
 
   abbrev Below : ℕ → Type 0
@@ -64,11 +65,11 @@ module _ (s : Seen) (i : ℕ) (l : i < s.problem.table.constraints) where
   below (x ∷ xs) w (suc k) d h = below xs w.1 k d (omega arith)
 
   -- a list's set and entries are there; an interval's entries are constants
-  pub list_there : (es : List ℕ) (k : Entries) (A : codeSet.SetVar) → constraint_of s.problem.bytes.now i ≡ decoded (map term es) (Listed k A) → (A.0 < tab.sets) × All Below es
-  list_there es Written A e = let r = named (map term es) (Listed Written A) e (Listed Written A) refl in (r.0, below es r.1)
-  list_there es (Interval x y) A e =
-      let r = named (map term es) (Listed (Interval x y) A) e (Listed (Interval x y) A) refl in
-      (r.0, below es (subst (Each (λ (t : Term). Below t.index)) (sym r.4) (terms_each (λ (t : Term). Below t.index) x.0 (suc y.0 - x.0) (λ t g h. omega (arith, r.1, r.2, constants_count)))))
+  pub list_there : (c : code.Constraint) → constraint_of s.problem.bytes.now i ≡ decoded c → (k : Entries) (A : codeSet.SetVar) (es : Bor (List ℕ)) → c ≡ Listed k A es → (A.0 < tab.sets) × All Below es.now
+  list_there c e Written A es f = let r = named c e (Listed Written A es) f in (r.0, below es.now r.1)
+  list_there c e (Interval x y) A es f =
+      let r = named c e (Listed (Interval x y) A es) f in
+      (r.0, below es.now (subst (Each (λ (t : Term). Below t.index)) (sym r.4) (terms_each (λ (t : Term). Below t.index) x.0 (suc y.0 - x.0) (λ t g h. omega (arith, r.1, r.2, constants_count)))))
 
 -- ---- the tests
 

@@ -7,7 +7,7 @@ ghost use Rattle.problem.specs.Table.{constraints_of, constraint_of};
 
 use crate::{has, relates};
 use assignment::Assignment;
-use constraints::{Constraint, Relation, decode, entries_of};
+use constraints::{Constraint, Operands, Relation, decode};
 use problem::Problem;
 use slices::word;
 use terms::{SetVar, Term};
@@ -69,16 +69,15 @@ impl<'a> Seen<'a> {
         requires { i < self.now.problem.table.constraints }
         ensures { result ≡ holds? (seen self.now) (constraint_of self.now.problem.bytes.now i) }
     {
-        let l = decode(&self.problem, i);
-        match l {
+        match decode(&self.problem, i) {
             Constraint::Member(t, a) => has(self.members(a), self.value(t)),
             Constraint::Nonmember(t, a) => !has(self.members(a), self.value(t)),
             Constraint::Same(t, u) => self.value(t) == self.value(u),
             Constraint::Different(t, u) => self.value(t) != self.value(u),
-            Constraint::Related(k, a, b, c) => {
+            Constraint::Related(k, Operands(a, b, c)) => {
                 relates(k, self.members(a), self.members(b), self.members(c))
             }
-            Constraint::Negated(_, a, b, c, _) => {
+            Constraint::Negated(_, Operands(a, b, c), _) => {
                 !relates(
                     Relation::Equal,
                     self.members(a),
@@ -86,9 +85,7 @@ impl<'a> Seen<'a> {
                     self.members(c),
                 )
             }
-            Constraint::Listed(_, a) => {
-                self.exactly(entries_of(&self.problem, i, l), self.members(a))
-            }
+            Constraint::Listed(_, a, entries) => self.exactly(entries, self.members(a)),
         }
     }
 

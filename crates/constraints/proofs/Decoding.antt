@@ -8,6 +8,7 @@ use lib.ListN.{length, get_or, take, drop, length-append, length-drop}
 use lib.Seq.{get_or-drop}
 use lib.IntN.{ℤ}
 use types.Run.{OneOf, miss}
+use Rattle.std.proofs.Common.{Bor}
 use Rattle.calculus.specs.Limits.{most_bytes, most_sets, most_constraints, most_terms}
 use Rattle.calculus.specs.Lists.{Each, up_from}
 use Rattle.calculus.specs.Terms.{Term, SetVar, term, set_var}
@@ -20,9 +21,9 @@ use Rattle.calculus.proofs.Bools.{each_imp}
 use Rattle.calculus.proofs.Sequences.{each_at, terms_at, up_length}
 use Rattle.calculus.proofs.ReadValid.{read_valid}
 use Rattle.calculus.proofs.ConstraintLaws.{constraints_within}
-use Rattle.terms.specs.declared.Term as terms
 use Rattle.terms.specs.declared.SetVar as sets
 use Rattle.questions.specs.declared.kind.Kind.{Kind}
+use Rattle.questions.specs.declared.kind.Kind.TheVariants.{Exactly, Interval as Interval·kind}
 use Rattle.questions.specs.Kinds.{code_of}
 use Rattle.problem.specs.declared.table.Table.{Table}
 use Rattle.problem.specs.Table.{problem_table, line_of, Opened, Stands, constraints_of, no_constraint, constraint_of, kind_of, witness_of}
@@ -32,7 +33,7 @@ use Rattle.constraints.specs.declared.Entries.TheVariants.{Written, Interval}
 use Rattle.constraints.specs.declared.Constraint.{Constraint}
 use Rattle.constraints.specs.declared.Constraint.TheVariants.{Member, Nonmember, Same, Different, Related, Negated, Listed}
 use Rattle.places.specs.Places.{entries_of}
-use Rattle.constraints.specs.Decoded.{list_of, decoded, Unpacked}
+use Rattle.constraints.specs.Decoded.{list_of, decoded, entries_in, Unpacked}
 
 -- ---- by the kind
 
@@ -132,31 +133,32 @@ up_part (suc n) zero (suc k) s t e l = ap₂ (λ (x : ℕ) (xs : List ℕ). x �
 up_part (suc n) (suc a) zero s t e l = absurd (omega arith)
 up_part (suc n) (suc a) (suc k) s t e l = up_part (suc n) a k (suc s) t (omega arith) (omega arith)
 
+-- the numbers from an interval's first entry to its last are its entries
+pub numbers_of : (i j : ℕ) (numbers : List ℕ) → numbers ≡ up_from 0 most_terms → i ≤ j → j < most_terms → (map term (take (j + 1 - i) (drop i numbers)) ≡ entries (term i) (term j)) × (length (take (j + 1 - i) (drop i numbers)) ≤ most_terms)
+numbers_of i j numbers m h l =
+    let z : j + 1 - i ≡ suc j - i = omega arith in
+    let p : take (suc j - i) (drop i (up_from 0 most_terms)) ≡ up_from i (suc j - i) = up_part (suc j - i) i most_terms 0 i (omega (arith, h)) (omega (arith, h, l)) in
+    let e : take (j + 1 - i) (drop i numbers) ≡ up_from i (suc j - i) = rw (z, m, p) in
+    (ap (map term) e, omega (arith, ap length e, up_length i (suc j - i), l))
+
 -- a list in range has its set in range
-pub list_set : (es : List Term) {l : Constraint} {k : Entries} {A : sets.SetVar} → l ≡ Listed k A → ConstraintIn most_terms most_sets (decoded es l) → A.0 < most_sets
-list_set es {k = k} {A} e c = go k (subst (λ (x : Constraint). ConstraintIn most_terms most_sets (decoded es x)) e c)
+pub list_set : {l : Constraint} {k : Entries} {A : sets.SetVar} {es : Bor (List ℕ)} → l ≡ Listed k A es → ConstraintIn most_terms most_sets (decoded l) → A.0 < most_sets
+list_set {k = k} {A} {es} e c = go k (subst (λ (x : Constraint). ConstraintIn most_terms most_sets (decoded x)) e c)
   where
-    go : (k : Entries) → ConstraintIn most_terms most_sets (list_of k (set_var A.0) es) → A.0 < most_sets
+    go : (k : Entries) → ConstraintIn most_terms most_sets (list_of k (set_var A.0) (map term es.now)) → A.0 < most_sets
     go Written c = c.0
     go (Interval t u) c = c.0
 
--- the variants but a list
-abbrev NoList : Constraint → Type 0
-NoList r = (k : Entries) (A : sets.SetVar) → ¬ (r ≡ Listed k A)
-
--- a list, as its entries were matched
-pub listed_as : {r : Constraint} {k m : Entries} {A : sets.SetVar} → r ≡ Listed k A → k ≡ m → r ≡ Listed m A
-listed_as {A = A} e q = e ∙ ap (λ (x : Entries). Listed x A) q
-
--- one that is no list has no entries
-no_entries : (r : Constraint) → NoList r → (es : List Term) → (decoded es r ≡ decoded [] r) × (entries_of (decoded [] r) ≡ [])
-no_entries (Member t A) a es = (refl, refl)
-no_entries (Nonmember t A) a es = (refl, refl)
-no_entries (Same t u) a es = (refl, refl)
-no_entries (Different t u) a es = (refl, refl)
-no_entries (Related k A B C) a es = (refl, refl)
-no_entries (Negated k A B C w) a es = (refl, refl)
-no_entries (Listed k A) a es = absurd (a k A refl)
+-- its entries as the calculus has them
+pub entries_as : (l : Constraint) → entries_of (decoded l) ≡ map term (entries_in l)
+entries_as (Member t A) = refl
+entries_as (Nonmember t A) = refl
+entries_as (Same t u) = refl
+entries_as (Different t u) = refl
+entries_as (Related k s) = refl
+entries_as (Negated k s w) = refl
+entries_as (Listed Written A es) = refl
+entries_as (Listed (Interval t u) A es) = refl
 
 -- where the table says that it stands, and what it says of its witness
 pub stands_there : (bs : List ℕ) (tab : Table) (i : ℕ) → Opened bs tab → i < tab.constraints → (i < most_constraints) × Stands bs i (line_of tab i).at × (term (line_of tab i).witness.0 ≡ witness_of bs i)
@@ -196,47 +198,18 @@ module _ (bs : List ℕ) (i at : ℕ) (st : Stands bs i at) where
   pub in_range : ConstraintIn most_terms most_sets this
   in_range = let s = opened_sizes bs st.tab st.opened in constraint_in bs st.tab i st.opened st.there most_terms most_sets s.2 s.1
 
-  -- ---- its entries
+  -- decoded so, it is handled
+  pub unpacked : (r : Constraint) → this ≡ decoded r → length (entries_in r) ≤ 255 → Unpacked bs i r
+  unpacked r e n = record { is = e; handled = record { in_range = subst (ConstraintIn most_terms most_sets) e in_range; short = n } }
 
-  unpacked : (es : List ℕ) (r : Constraint) → this ≡ decoded (map term es) r → entries_of (decoded (map term es) r) ≡ map term es → length es ≤ 255 → Unpacked bs i es r
-  unpacked es r e q n = record { is = e; handled = record { in_range = subst (ConstraintIn most_terms most_sets) e in_range; entries_are = q; short = n } }
+  -- an interval has the terms from its first to its last, and not empty it ends below most_terms
+  pub filled : {A : SetVar} {t u : Term} {es : List Term} → this ≡ calculus.interval A t u es → es ≡ entries t u
+  filled e = (subst (Refers prob.constants (nameable prob) (set_count prob)) e refers).4
 
-  module _ (r : Constraint) (is : this ≡ decoded (entries_of this) r) where
-    -- a list's: as many as its count byte says
-    module _ {A : sets.SetVar} (e : r ≡ Listed Written A) where
-      pub list_unpacked : (es : List ℕ) → this ≡ calculus.exactly (set_var (get_or bs (at + 1) 0)) (map term es) → length es ≤ 255 → Unpacked bs i es r
-      list_unpacked es h n =
-          let q : this ≡ calculus.exactly (set_var A.0) (map term es) = is ∙ ap₂ decoded (ap entries_of h) e in
-          unpacked es r (q ∙ ap (decoded (map term es)) (sym e)) (ap (λ (x : Constraint). entries_of (decoded (map term es) x)) e) n
-
-    -- an interval's: the numbers from its first entry to its last
-    module _ {A : sets.SetVar} {t u : terms.Term} (e : r ≡ Listed (Interval t u) A) where
-      -- its entries are those numbers
-      filled : entries_of this ≡ entries (term t.0) (term u.0)
-      filled = (subst (Refers prob.constants (nameable prob) (set_count prob)) (is ∙ ap (decoded (entries_of this)) e) refers).4
-
-      interval_is : (es : List ℕ) → up_from t.0 (suc u.0 - t.0) ≡ es → length es ≤ 255 → Unpacked bs i es r
-      interval_is es h n = unpacked es r (is ∙ ap (λ (x : List Term). decoded x r) (filled ∙ ap (map term) h)) (ap (λ (x : Constraint). entries_of (decoded (map term es) x)) e) n
-
-      -- an interval that is not empty ends below most_terms
-      pub interval_end : t.0 ≤ u.0 → u.0 < most_terms
-      interval_end h =
-          let a : ConstraintIn most_terms most_sets (decoded (entries (term t.0) (term u.0)) (Listed (Interval t u) A)) = subst (ConstraintIn most_terms most_sets) (is ∙ ap₂ decoded filled e) in_range in
-          terms_at (λ x. x.index < most_terms) t.0 (suc u.0 - t.0) a.1 u.0 h (omega arith)
-
-      pub interval_unpacked : t.0 ≤ u.0 → (es numbers : List ℕ) → numbers ≡ up_from 0 most_terms → es ≡ take (u.0 + 1 - t.0) (drop t.0 numbers) → Unpacked bs i es r
-      interval_unpacked h es numbers m q =
-          let z : u.0 + 1 - t.0 ≡ suc u.0 - t.0 = omega arith in
-          let p : take (suc u.0 - t.0) (drop t.0 (up_from 0 most_terms)) ≡ up_from t.0 (suc u.0 - t.0) = up_part (suc u.0 - t.0) t.0 most_terms 0 t.0 (omega arith) (omega (arith, interval_end h)) in
-          let s : up_from t.0 (suc u.0 - t.0) ≡ es = sym (rw (m, z) at q ∙ p) in
-          interval_is es s (omega (arith, ap length s, up_length t.0 (suc u.0 - t.0), interval_end h))
-
-      pub interval_empty : u.0 < t.0 → Unpacked bs i [] r
-      interval_empty h = let z : suc u.0 - t.0 ≡ 0 = omega arith in interval_is [] (ap (up_from t.0) z) (omega arith)
-
-    -- any other's: none
-    pub others_unpacked : NoList r → Unpacked bs i [] r
-    others_unpacked a = let n = no_entries r a (entries_of this) in unpacked [] r (is ∙ n.0) n.1 (omega arith)
+  pub interval_end : {A : SetVar} {t u : Term} {es : List Term} → this ≡ calculus.interval A t u es → t.index ≤ u.index → u.index < most_terms
+  interval_end {A} {t} {u} e h =
+      let a : ConstraintIn most_terms most_sets (calculus.interval A t u (entries t u)) = subst (ConstraintIn most_terms most_sets) (e ∙ ap (calculus.interval A t u) (filled e)) in_range in
+      terms_at (λ x. x.index < most_terms) t.index (suc u.index - t.index) a.1 u.index h (omega arith)
 
 -- ---- its bytes, from its kind byte on
 
@@ -282,3 +255,28 @@ module _ (bs : List ℕ) (tab : Table) (i : ℕ) (o : Opened bs tab) (l : i < ta
       let p = prob bs i (line_of tab i).at there in
       let h = by_kind p.constants (nameable p) (set_count p) (line_of tab i).witness.0 rest known (refers bs i (line_of tab i).at there) (λ k A B C v z. w ∙ witness_is bs tab i o k A B C v z) in
       rw (b, sym begins) at h
+
+  pub kind_is : {k m : Kind} → code_of k ≡ get_or line 0 0 → k ≡ m → kind_of known ≡ code_of m
+  kind_is c q = sym kind_byte ∙ sym c ∙ ap code_of q
+
+  -- so it is decoded, one without entries
+  pub decodes : {k m : Kind} {r : Constraint} → code_of k ≡ get_or line 0 0 → k ≡ m → of_kind (code_of m) (get_or line 1 0) (get_or line 2 0) (get_or line 3 0) (line_of tab i).witness.0 (entries_of known) ≡ decoded r → length (entries_in r) ≤ 255 → Unpacked bs i r
+  decodes {r = r} c q e n = unpacked bs i (line_of tab i).at there r (reads_as c q ∙ e) n
+
+  -- a list, by the part of the problem that has its entries
+  pub decodes_list : {k : Kind} {es : Bor (List ℕ)} → code_of k ≡ get_or line 0 0 → k ≡ Exactly → known ≡ calculus.exactly (set_var (get_or bs ((line_of tab i).at + 1) 0)) (map term es.now) → length es.now ≤ 255 → Unpacked bs i (Listed Written (record { 0 = get_or line 1 0 }) es)
+  decodes_list {es = es} c q h n = unpacked bs i (line_of tab i).at there (Listed Written (record { 0 = get_or line 1 0 }) es) (reads_as c q ∙ ap (calculus.exactly (set_var (get_or line 1 0))) (ap entries_of h)) n
+
+  -- an interval, by its terms
+  abbrev ends : calculus.Constraint
+  ends = calculus.interval (set_var (get_or line 1 0)) (term (get_or line 2 0)) (term (get_or line 3 0)) (entries_of known)
+
+  pub decodes_end : {k : Kind} → code_of k ≡ get_or line 0 0 → k ≡ Interval·kind → get_or line 2 0 ≤ get_or line 3 0 → get_or line 3 0 < most_terms
+  decodes_end c q h = interval_end bs i (line_of tab i).at there (reads_as c q) h
+
+  pub decodes_interval : {k : Kind} {es : Bor (List ℕ)} → code_of k ≡ get_or line 0 0 → k ≡ Interval·kind → map term es.now ≡ entries (term (get_or line 2 0)) (term (get_or line 3 0)) → length es.now ≤ most_terms
+      → Unpacked bs i (Listed (Interval (record { 0 = get_or line 2 0 }) (record { 0 = get_or line 3 0 })) (record { 0 = get_or line 1 0 }) es)
+  decodes_interval {es = es} c q h n =
+      let e = reads_as c q in
+      let f : entries_of known ≡ map term es.now = filled bs i (line_of tab i).at there e ∙ sym h in
+      unpacked bs i (line_of tab i).at there (Listed (Interval (record { 0 = get_or line 2 0 }) (record { 0 = get_or line 3 0 })) (record { 0 = get_or line 1 0 }) es) (e ∙ ap (calculus.interval (set_var (get_or line 1 0)) (term (get_or line 2 0)) (term (get_or line 3 0))) f) (omega (arith, n))

@@ -1,12 +1,11 @@
 -- The code's constraint as the calculus has it.
-use Rattle.std.specs.Prelude.{◌≡◌, List, map, ℕ, ◌≤◌, length}
+use Rattle.std.specs.Prelude.{◌≡◌, List, [], map, ℕ, ◌≤◌, length}
 use Rattle.calculus.specs.Limits.{most_sets, most_terms}
 use Rattle.calculus.specs.Terms.{Term, SetVar, term, set_var}
 use Rattle.calculus.specs.Relations as relations
 use Rattle.calculus.specs.Meaning as calculus
 use Rattle.calculus.specs.Invariants.{ConstraintIn}
 use Rattle.problem.specs.Table.{constraint_of}
-use Rattle.places.specs.Places.{entries_of}
 use Rattle.constraints.specs.declared.Relation.{Relation}
 use Rattle.constraints.specs.declared.Relation.TheVariants.{Equal, Union, Disjoint, Subset, Intersection}
 use Rattle.constraints.specs.declared.Negation.{Negation}
@@ -30,23 +29,26 @@ abbrev pub list_of : Entries → SetVar → List Term → calculus.Constraint
 list_of Written A es = calculus.exactly A es
 list_of (Interval i j) A es = calculus.interval A (term i.0) (term j.0) es
 
--- es are the entries of a list or an interval, which the code hands on beside it
-abbrev pub decoded : List Term → Constraint → calculus.Constraint
-decoded es (Member t A) = calculus.member (term t.0) (set_var A.0)
-decoded es (Nonmember t A) = calculus.nonmember (term t.0) (set_var A.0)
-decoded es (Same t u) = calculus.same (term t.0) (term u.0)
-decoded es (Different t u) = calculus.different (term t.0) (term u.0)
-decoded es (Related k A B C) = calculus.relation (relation_of k) (set_var A.0) (set_var B.0) (set_var C.0)
-decoded es (Negated k A B C w) = calculus.negation (negation_of k) (set_var A.0) (set_var B.0) (set_var C.0) (term w.0)
-decoded es (Listed k A) = list_of k (set_var A.0) es
+abbrev pub decoded : Constraint → calculus.Constraint
+decoded (Member t A) = calculus.member (term t.0) (set_var A.0)
+decoded (Nonmember t A) = calculus.nonmember (term t.0) (set_var A.0)
+decoded (Same t u) = calculus.same (term t.0) (term u.0)
+decoded (Different t u) = calculus.different (term t.0) (term u.0)
+decoded (Related k s) = calculus.relation (relation_of k) (set_var s.0.0) (set_var s.1.0) (set_var s.2.0)
+decoded (Negated k s w) = calculus.negation (negation_of k) (set_var s.0.0) (set_var s.1.0) (set_var s.2.0) (term w.0)
+decoded (Listed k A es) = list_of k (set_var A.0) (map term es.now)
 
--- a constraint l that the code handles, with its entries: its terms and sets are below the limits
-pub record Handled (es : List ℕ) (l : Constraint) : Type 0 where
-  pub in_range : ConstraintIn most_terms most_sets (decoded (map term es) l)
-  pub entries_are : entries_of (decoded (map term es) l) ≡ map term es
-  pub short : length es ≤ 255
+-- the bytes of the entries of a list or an interval; others have none
+abbrev pub entries_in : Constraint → List ℕ
+entries_in (Listed k A es) = es.now
+entries_in l = []
 
--- constraint i of a problem, decoded, with its entries
-pub record Unpacked (bs : List ℕ) (i : ℕ) (es : List ℕ) (l : Constraint) : Type 0 where
-  pub is : constraint_of bs i ≡ decoded (map term es) l
-  pub handled : Handled es l
+-- a constraint that the code handles: its terms and sets are below the limits
+pub record Handled (l : Constraint) : Type 0 where
+  pub in_range : ConstraintIn most_terms most_sets (decoded l)
+  pub short : length (entries_in l) ≤ 255
+
+-- constraint i of a problem, decoded
+pub record Unpacked (bs : List ℕ) (i : ℕ) (l : Constraint) : Type 0 where
+  pub is : constraint_of bs i ≡ decoded l
+  pub handled : Handled l

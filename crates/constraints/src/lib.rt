@@ -1,10 +1,11 @@
 // A constraint, decoded from the problem's bytes.
 #![tactic(auto)]
 
-ghost use Rattle.std.specs.Prelude.{◌≡◌, ◌<◌};
-ghost use Rattle.problem.specs.Table.{constraint_of};
-ghost use Rattle.places.specs.Places.{entries_of};
-ghost use Rattle.constraints.specs.Decoded.{decoded, Unpacked};
+ghost use Rattle.std.specs.Prelude.{◌≡◌, map, ◌≤◌, ◌<◌, length};
+ghost use Rattle.calculus.specs.Limits.{most_terms};
+ghost use Rattle.calculus.specs.Terms.{term};
+ghost use Rattle.calculus.specs.Problem.{entries};
+ghost use Rattle.constraints.specs.Decoded.{entries_in, Unpacked};
 
 use problem::Problem;
 use questions::Kind;
@@ -25,29 +26,56 @@ pub enum Negation {
     Unequal,
 }
 
-// Where the entries of a set are: written in the problem, or the numbers from a first to a last.
+// Where the entries of a set are from: written in the problem, or the numbers from a first to a last.
 #[derive(Clone, Copy)]
 pub enum Entries {
     Written,
     Interval(Term, Term),
 }
 
-// A constraint with its operands; one of two sets repeats its first operand. The entries of a list or an interval are handed on beside it (`entries_of`).
+// The sets A, B and C of the rules' tables; a constraint of two sets repeats its first.
 #[derive(Clone, Copy)]
-pub enum Constraint {
+pub struct Operands(pub SetVar, pub SetVar, pub SetVar);
+
+// A constraint with its operands; a negation has its witness, and a list or an interval its entries.
+#[derive(Clone, Copy)]
+pub enum Constraint<'a> {
     Member(Term, SetVar),
     Nonmember(Term, SetVar),
     Same(Term, Term),
     Different(Term, Term),
-    Related(Relation, SetVar, SetVar, SetVar),
-    Negated(Negation, SetVar, SetVar, SetVar, Term),
-    Listed(Entries, SetVar),
+    Related(Relation, Operands),
+    Negated(Negation, Operands, Term),
+    Listed(Entries, SetVar, &'a [u8]),
 }
 
-// Constraint i.
-pub fn decode(problem: &Problem, i: usize) -> Constraint
+impl<'a> Constraint<'a> {
+    // The entries of a list or an interval; others have none.
+    pub fn entries(&self) -> &'a [u8]
+        ensures { result.now ≡ entries_in self.now }
+    {
+        match *self {
+            Constraint::Listed(_, _, entries) => entries,
+            _ => &[],
+        }
+    }
+}
+
+// The terms from a first to a last; none if the first is above.
+fn interval<'a>(problem: &'a Problem, first: Term, last: Term) -> &'a [u8]
+    requires { first.0 ≤ last.0 → last.0 < most_terms }
+    ensures { (map term result.now ≡ entries (term first.0) (term last.0)) × (length result.now ≤ most_terms) }
+{
+    if last.0 < first.0 {
+        return &[];
+    }
+    &problem.numbers[first.0 as usize..last.0 as usize + 1]
+}
+
+// Constraint i. The entries of a list are a part of the problem, those of an interval a part of the numbers.
+pub fn decode<'a>(problem: &'a Problem, i: usize) -> Constraint<'a>
     requires { i < problem.now.table.constraints }
-    ensures { constraint_of problem.now.bytes.now i ≡ decoded (entries_of (constraint_of problem.now.bytes.now i)) result }
+    ensures { Unpacked problem.now.bytes.now i result }
 {
     let line = problem.from(i);
     let w = problem.table.lines[i].witness;
@@ -56,46 +84,27 @@ pub fn decode(problem: &Problem, i: usize) -> Constraint
     };
     let p = line[1];
     let q = line[2];
+    let a = SetVar(p);
+    let b = SetVar(q);
     match kind {
-        Kind::Member => Constraint::Member(Term(p), SetVar(q)),
-        Kind::Nonmember => Constraint::Nonmember(Term(p), SetVar(q)),
+        Kind::Member => Constraint::Member(Term(p), b),
+        Kind::Nonmember => Constraint::Nonmember(Term(p), b),
         Kind::Same => Constraint::Same(Term(p), Term(q)),
         Kind::Different => Constraint::Different(Term(p), Term(q)),
-        Kind::Equal => Constraint::Related(Relation::Equal, SetVar(p), SetVar(q), SetVar(p)),
-        Kind::Unequal => {
-            Constraint::Negated(Negation::Unequal, SetVar(p), SetVar(q), SetVar(p), w)
+        Kind::Equal => Constraint::Related(Relation::Equal, Operands(a, b, a)),
+        Kind::Unequal => Constraint::Negated(Negation::Unequal, Operands(a, b, a), w),
+        Kind::Union => Constraint::Related(Relation::Union, Operands(a, b, SetVar(line[3]))),
+        Kind::Disjoint => Constraint::Related(Relation::Disjoint, Operands(a, b, a)),
+        Kind::Subset => Constraint::Related(Relation::Subset, Operands(a, b, a)),
+        Kind::Intersection => {
+            Constraint::Related(Relation::Intersection, Operands(a, b, SetVar(line[3])))
         }
-        Kind::Union => {
-            Constraint::Related(Relation::Union, SetVar(p), SetVar(q), SetVar(line[3]))
-        }
-        Kind::Disjoint => Constraint::Related(Relation::Disjoint, SetVar(p), SetVar(q), SetVar(p)),
-        Kind::Subset => Constraint::Related(Relation::Subset, SetVar(p), SetVar(q), SetVar(p)),
-        Kind::Intersection => Constraint::Related(
-            Relation::Intersection,
-            SetVar(p),
-            SetVar(q),
-            SetVar(line[3]),
-        ),
-        Kind::Exactly => Constraint::Listed(Entries::Written, SetVar(p)),
+        Kind::Exactly => Constraint::Listed(Entries::Written, a, problem.entries(i)),
         Kind::Interval => {
-            Constraint::Listed(Entries::Interval(Term(q), Term(line[3])), SetVar(p))
+            let first = Term(q);
+            let last = Term(line[3]);
+            let entries = interval(problem, first, last);
+            Constraint::Listed(Entries::Interval(first, last), a, entries)
         }
-    }
-}
-
-// The entries of constraint i: the part of the problem that has a list's, the part of the numbers that has an interval's, and none of any other.
-pub fn entries_of<'a>(problem: &'a Problem, i: usize, l: Constraint) -> &'a [u8]
-    requires { (i < problem.now.table.constraints) × (constraint_of problem.now.bytes.now i ≡ decoded (entries_of (constraint_of problem.now.bytes.now i)) l) }
-    ensures { Unpacked problem.now.bytes.now i result.now l }
-{
-    let Constraint::Listed(place, _) = l else {
-        return &[];
-    };
-    match place {
-        Entries::Written => problem.entries(i),
-        Entries::Interval(first, last) if first.0 <= last.0 => {
-            &problem.numbers[first.0 as usize..last.0 as usize + 1]
-        }
-        Entries::Interval(_, _) => &[],
     }
 }

@@ -30,16 +30,16 @@ use Rattle.calculus.specs.Invariants.{ConstraintIn}
 use Rattle.branch.specs.Held.{root_of}
 use Rattle.branch.specs.Rows.{literal_known, RowsOf, literal_count}
 use Rattle.branch.proofs.Roots.{root_is, root_range}
-use Rattle.places.specs.Places.{RuleOf, row_of, move_at, list_move, entries_of, roots, positions, first_at}
+use Rattle.places.specs.Places.{RuleOf, row_of, move_at, list_move, roots, positions, first_at}
 use Rattle.places.proofs.Offered.{by_position}
 use Rattle.constraints.specs.declared.Constraint.{Constraint as Coded}
 use Rattle.constraints.specs.declared.Constraint.TheVariants.{Member, Nonmember, Same as Equated, Different, Related, Negated, Listed}
-use Rattle.terms.specs.declared.SetVar.{SetVar as CodedSet}
+use Rattle.constraints.specs.declared.Operands.{Operands}
 use Rattle.constraints.specs.declared.Negation.{Negation as CodedNegation}
 use Rattle.terms.specs.declared.Term.{Term as CodedTerm}
 use Rattle.constraints.specs.declared.Negation.TheVariants.{Unequal}
 use Rattle.constraints.specs.declared.Entries.TheVariants.{Written, Interval}
-use Rattle.constraints.specs.Decoded.{relation_of, negation_of, decoded, Handled}
+use Rattle.constraints.specs.Decoded.{relation_of, negation_of, decoded, entries_in, Handled}
 use Rattle.rules.specs.declared.Child.{Child}
 use Rattle.rules.specs.declared.Denial.{Denial}
 use Rattle.rules.specs.declared.Row.{Row as Code}
@@ -52,15 +52,15 @@ use Rattle.fits.proofs.RowBits.{known_in, known_out, applies_at, laid_low, parte
 
 -- ---- the word of rule j, by the decoded constraint: over parents, rows and entries
 
-module _ (ps rows es : List ℕ) (j : ℕ) where
+module _ (ps rows : List ℕ) (j : ℕ) where
   abbrev pub IsWord : Coded → ℕ → Type 0
   IsWord (Member t A) w = w ≡ bit_and (2 ^ root_of ps t.0) (2 ^ 64 - 1 - get_or rows A.0 0)
   IsWord (Nonmember t A) w = w ≡ bit_and (2 ^ root_of ps t.0) (2 ^ 64 - 1 - get_or rows (most_sets + A.0) 0)
   IsWord (Equated t u) w = w ≡ bit_and (2 ^ root_of ps t.0) (2 ^ 64 - 1 - 2 ^ root_of ps u.0)
   IsWord (Different t u) w = w ≡ bit_and (2 ^ root_of ps t.0) (2 ^ root_of ps u.0)
-  IsWord (Related k A B C) w = (splitting j ≡ false → w ≡ forced_word rows (laid (sets A B C) (numbered j))) × (splitting j ≡ true → w ≡ divided_word rows (parted (sets A B C) (numbered j)))
-  IsWord (Negated k A B C x) w = w ≡ denied_word rows (denying (sets A B C) (negation_row (negation_of k))) (root_of ps x.0)
-  IsWord (Listed k A) w = ByEntries ps (get_or rows A.0 0) es j w
+  IsWord (Related k s) w = (splitting j ≡ false → w ≡ forced_word rows (laid (sets s) (numbered j))) × (splitting j ≡ true → w ≡ divided_word rows (parted (sets s) (numbered j)))
+  IsWord (Negated k s x) w = w ≡ denied_word rows (denying (sets s) (negation_row (negation_of k))) (root_of ps x.0)
+  IsWord (Listed k A es) w = ByEntries ps (get_or rows A.0 0) es.now j w
 
 -- a test of one fact
 once : (a : Bool) → not ((a && true) || false) ≡ not a
@@ -231,70 +231,67 @@ module _ (n : ℕ) (b : Branch) (rows : List ℕ) (of : RowsOf b rows) (fall : F
 each_term : (n : ℕ) (es : List ℕ) → Each (λ (e : Term). e.index < n) (map term es) → Each (λ e. e < n) es
 each_term n = map_each (λ (e : Term). e.index < n) term
 
-fits_of : (n : ℕ) (b : Branch) (rows es : List ℕ) (j : ℕ) → RowsOf b rows → Falls b.parents → n ≤ most_terms → (l : Coded) → ConstraintIn n most_sets (decoded (map term es) l) → RuleOf (decoded (map term es) l) j → (w : ℕ) → IsWord b.parents rows es j l w → Fits n b (decoded (map term es) l) j w
-fits_of n b rows es j of fall few (Member t A) c r w i =
+fits_of : (n : ℕ) (b : Branch) (rows : List ℕ) (j : ℕ) → RowsOf b rows → Falls b.parents → n ≤ most_terms → (l : Coded) → ConstraintIn n most_sets (decoded l) → RuleOf (decoded l) j → (w : ℕ) → IsWord b.parents rows j l w → Fits n b (decoded l) j w
+fits_of n b rows j of fall few (Member t A) c r w i =
     one_but n b rows of fall few (member (term t.0) (set_var A.0)) j t.0 c.0 refl (λ p. refl) (get_or rows A.0 0) (of.small A.0 (omega (arith, c.1))) _ (row_at n b rows of fall few A.0 t.0 (omega (arith, c.1)) c.0)
     (once (calculus.known b (In (term t.0) (set_var A.0))) ∙ ap not (known_in b t.0 (root_of b.parents t.0) (root_is b t.0) (set_var A.0) c.1)) w i
-fits_of n b rows es j of fall few (Nonmember t A) c r w i =
+fits_of n b rows j of fall few (Nonmember t A) c r w i =
     one_but n b rows of fall few (nonmember (term t.0) (set_var A.0)) j t.0 c.0 refl (λ p. refl) (get_or rows (most_sets + A.0) 0) (of.small (most_sets + A.0) (omega (arith, c.1))) _ (row_at n b rows of fall few (most_sets + A.0) t.0 (omega (arith, c.1)) c.0)
     (once (calculus.known b (Out (term t.0) (set_var A.0))) ∙ ap not (known_out b t.0 (root_of b.parents t.0) (root_is b t.0) (set_var A.0) c.1)) w i
-fits_of n b rows es j of fall few (Equated t u) c r w i =
+fits_of n b rows j of fall few (Equated t u) c r w i =
     one_but n b rows of fall few (same (term t.0) (term u.0)) j t.0 c.0 refl (λ p. refl) (2 ^ root_of b.parents u.0) (pow-lt (low64 n b rows of fall few u.0 c.1)) _ (bit_pow (root_of b.parents u.0) (root_of b.parents t.0))
     (once (eqb (root_at b t.0) (root_at b u.0)) ∙ ap₂ (λ (x y : ℕ). not (eqb x y)) (root_is b t.0) (root_is b u.0)) w i
-fits_of n b rows es j of fall few (Different t u) c r w i =
+fits_of n b rows j of fall few (Different t u) c r w i =
     one_at n b rows of fall few (different (term t.0) (term u.0)) j t.0 c.0 refl (λ p. refl) (eqb (root_of b.parents t.0) (root_of b.parents u.0))
     (and-true _ ∙ and-true _ ∙ ap₂ eqb (root_is b t.0) (root_is b u.0)) w
     (λ h. ap (λ (x : ℕ). bit x h) i ∙ bit_of_and (2 ^ root_of b.parents t.0) (2 ^ root_of b.parents u.0) h ∙ ap₂ ◌&&◌ (bit_pow (root_of b.parents t.0) h) (bit_pow (root_of b.parents u.0) h) ∙ at_one (λ k. eqb k (root_of b.parents u.0)) h (root_of b.parents t.0))
-fits_of n b rows es j of fall few (Related k A B C) c r w i = go (splitting j) refl
+fits_of n b rows j of fall few (Related k s) c r w i = go (splitting j) refl
   where
-    go : (x : Bool) → splitting j ≡ x → Fits n b (relation (relation_of k) (set_var A.0) (set_var B.0) (set_var C.0)) j w
-    go true z = divided_fits n b rows of fall few (relation_of k) (set_var A.0) (set_var B.0) (set_var C.0) j r c z w (i.1 z)
-    go false z = forced_fits n b rows of fall few (relation_of k) (set_var A.0) (set_var B.0) (set_var C.0) j r c z w (i.0 z)
-fits_of n b rows es j of fall few (Negated k A B C x) c r w i = denied_fits n b rows of fall few (negation_of k) (set_var A.0) (set_var B.0) (set_var C.0) x.0 j c.0 c.1 w i
-fits_of n b rows es j of fall few (Listed Written A) c r w i = list_fits n b rows of fall few (set_var A.0) c.0 (exactly (set_var A.0) (map term es)) j es (each_term n es c.1) w i (λ p. refl) refl
-fits_of n b rows es j of fall few (Listed (Interval x y) A) c r w i =
-    list_fits n b rows of fall few (set_var A.0) c.0 (interval (set_var A.0) (term x.0) (term y.0) (map term es)) j es (each_term n es c.1) w i (λ p. refl) refl
+    go : (x : Bool) → splitting j ≡ x → Fits n b (relation (relation_of k) (set_var s.0.0) (set_var s.1.0) (set_var s.2.0)) j w
+    go true z = divided_fits n b rows of fall few (relation_of k) (set_var s.0.0) (set_var s.1.0) (set_var s.2.0) j r c z w (i.1 z)
+    go false z = forced_fits n b rows of fall few (relation_of k) (set_var s.0.0) (set_var s.1.0) (set_var s.2.0) j r c z w (i.0 z)
+fits_of n b rows j of fall few (Negated k s x) c r w i = denied_fits n b rows of fall few (negation_of k) (set_var s.0.0) (set_var s.1.0) (set_var s.2.0) x.0 j c.0 c.1 w i
+fits_of n b rows j of fall few (Listed Written A es) c r w i = list_fits n b rows of fall few (set_var A.0) c.0 (exactly (set_var A.0) (map term es.now)) j es.now (each_term n es.now c.1) w i (λ p. refl) refl
+fits_of n b rows j of fall few (Listed (Interval x y) A es) c r w i =
+    list_fits n b rows of fall few (set_var A.0) c.0 (interval (set_var A.0) (term x.0) (term y.0) (map term es.now)) j es.now (each_term n es.now c.1) w i (λ p. refl) refl
 
 -- for the code: l is what was matched as m
-module _ {es : List ℕ} {word j : ℕ} {l m : Coded} (e : l ≡ m) (q : Asked es word l j) where
-  pub in_range : ConstraintIn most_terms most_sets (decoded (map term es) m)
-  in_range = subst (λ (x : Coded). ConstraintIn most_terms most_sets (decoded (map term es) x)) e q.handled.in_range
+module _ {word j : ℕ} {l m : Coded} (e : l ≡ m) (q : Asked word l j) where
+  pub in_range : ConstraintIn most_terms most_sets (decoded m)
+  in_range = subst (λ (x : Coded). ConstraintIn most_terms most_sets (decoded x)) e q.handled.in_range
 
-  pub fits_right : (ps rows : List ℕ) → Falls ps → (w : ℕ) → IsWord ps rows es j m w → FitsFor ps rows es l j w
+  pub fits_right : (ps rows : List ℕ) → Falls ps → (w : ℕ) → IsWord ps rows j m w → FitsFor ps rows l j w
   fits_right ps rows fall w i n b few c s =
-      fits_of n b rows es j s.rows_are (subst Falls (sym s.parents_are) fall) few l c q.of_rule w
-      (subst (λ (x : Coded). IsWord b.parents rows es j x w) (sym e) (subst (λ (qs : List ℕ). IsWord qs rows es j m w) (sym s.parents_are) i))
+      fits_of n b rows j s.rows_are (subst Falls (sym s.parents_are) fall) few l c q.of_rule w
+      (subst (λ (x : Coded). IsWord b.parents rows j x w) (sym e) (subst (λ (qs : List ℕ). IsWord qs rows j m w) (sym s.parents_are) i))
 
 -- what row_of, split_of and denial_of answer makes the right words
-module _ (rows : List ℕ) (j w : ℕ) (A B C : CodedSet) where
+module _ (rows : List ℕ) (j w : ℕ) (s : Operands) where
   abbrev Word : Type 0
-  Word = (splitting j ≡ false → w ≡ forced_word rows (laid (sets A B C) (numbered j))) × (splitting j ≡ true → w ≡ divided_word rows (parted (sets A B C) (numbered j)))
+  Word = (splitting j ≡ false → w ≡ forced_word rows (laid (sets s) (numbered j))) × (splitting j ≡ true → w ≡ divided_word rows (parted (sets s) (numbered j)))
 
-  pub forced_word_is : ¬ (j ≡ 12) → (x : Code) → x ≡ laid (sets A B C) (numbered j) → w ≡ forced_word rows x → Word
+  pub forced_word_is : ¬ (j ≡ 12) → (x : Code) → x ≡ laid (sets s) (numbered j) → w ≡ forced_word rows x → Word
   forced_word_is n x q f = (λ _. f ∙ ap (forced_word rows) q, λ z. absurd (n (eqb-true j 12 z)))
 
-  pub divided_word_is : j ≡ 12 → (x : Split) → x ≡ parted (sets A B C) (numbered 12) → w ≡ divided_word rows x → Word
-  divided_word_is n x q f = (λ z. clash (eq-eqb j 12 n) z, λ _. f ∙ ap (divided_word rows) (q ∙ ap (λ (i : ℕ). parted (sets A B C) (numbered i)) (sym n)))
+  pub divided_word_is : j ≡ 12 → (x : Split) → x ≡ parted (sets s) (numbered 12) → w ≡ divided_word rows x → Word
+  divided_word_is n x q f = (λ z. clash (eq-eqb j 12 n) z, λ _. f ∙ ap (divided_word rows) (q ∙ ap (λ (i : ℕ). parted (sets s) (numbered i)) (sym n)))
 
-pub denied_word_is : {l : Coded} {k : CodedNegation} {A B C : CodedSet} {t : CodedTerm} → l ≡ Negated k A B C t → (rows : List ℕ) (w h : ℕ) (x : Denial) → x ≡ denying (sets A B C) (numbered 7) → w ≡ denied_word rows x h → w ≡ denied_word rows (denying (sets A B C) (negation_row (negation_of k))) h
-denied_word_is {l} {k} {A} {B} {C} e rows w h x q f = f ∙ ap (λ (x : Denial). denied_word rows x h) (q ∙ ap (denying (sets A B C)) (seven k))
+pub denied_word_is : {l : Coded} {k : CodedNegation} {s : Operands} {t : CodedTerm} → l ≡ Negated k s t → (rows : List ℕ) (w h : ℕ) (x : Denial) → x ≡ denying (sets s) (numbered 7) → w ≡ denied_word rows x h → w ≡ denied_word rows (denying (sets s) (negation_row (negation_of k))) h
+denied_word_is {l} {k} {s} e rows w h x q f = f ∙ ap (λ (x : Denial). denied_word rows x h) (q ∙ ap (denying (sets s)) (seven k))
   where
     seven : (k : CodedNegation) → numbered 7 ≡ negation_row (negation_of k)
     seven Unequal = refl
 
 -- the entries are terms below n, and so below 64
-entries_within : (n : ℕ) (l : Constraint) → ConstraintIn n most_sets l → Each (λ (e : Term). e.index < n) (entries_of l)
-entries_within n (member t A) c = tt
-entries_within n (nonmember t A) c = tt
-entries_within n (same t u) c = tt
-entries_within n (different t u) c = tt
-entries_within n (relation k A B C) c = tt
-entries_within n (negation k A B C w) c = tt
-entries_within n (exactly A es) c = c.1
-entries_within n (interval A x y es) c = c.1
+pub entries_low : (n : ℕ) (l : Coded) → ConstraintIn n most_sets (decoded l) → Each (λ e. e < n) (entries_in l)
+entries_low n (Member t A) c = tt
+entries_low n (Nonmember t A) c = tt
+entries_low n (Equated t u) c = tt
+entries_low n (Different t u) c = tt
+entries_low n (Related k s) c = tt
+entries_low n (Negated k s w) c = tt
+entries_low n (Listed Written A es) c = each_term n es.now c.1
+entries_low n (Listed (Interval x y) A es) c = each_term n es.now c.1
 
-pub entries_low : (n : ℕ) (es : List ℕ) (l : Coded) → Handled es l → ConstraintIn n most_sets (decoded (map term es) l) → Each (λ e. e < n) es
-entries_low n es l h c = each_term n es (subst (Each (λ (e : Term). e.index < n)) h.entries_are (entries_within n (decoded (map term es) l) c))
-
-pub entries_below : (es : List ℕ) (l : Coded) → Handled es l → Each (λ e. e < most_terms) es
-entries_below es l h = entries_low 64 es l h h.in_range
+pub entries_below : (l : Coded) → Handled l → Each (λ e. e < most_terms) (entries_in l)
+entries_below l h = entries_low most_terms l h.in_range

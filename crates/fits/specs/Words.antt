@@ -1,5 +1,5 @@
 -- Words of bits: the roots at which a rule applies.
-use Rattle.std.specs.Prelude.{◌≡◌, Bool, true, false, ◌&&◌, not, cond, List, [], ◌∷◌, map, ℕ, ◌+◌, ◌-◌, ◌^◌, ◌≤◌, ◌<◌, get_or, eqb}
+use Rattle.std.specs.Prelude.{◌≡◌, Bool, true, false, ◌&&◌, not, cond, List, [], ◌∷◌, ℕ, ◌+◌, ◌-◌, ◌^◌, ◌≤◌, ◌<◌, get_or, eqb}
 use Rattle.std.proofs.Math.Option
 use Rattle.std.specs.Int.Bits.{bit_and, bit_or}
 use Rattle.calculus.specs.Limits.{most_sets, most_terms}
@@ -15,10 +15,9 @@ use Rattle.rules.specs.declared.Row.{Row}
 use Rattle.rules.specs.declared.Split.{Split}
 use Rattle.rules.specs.declared.Child.{Child}
 use Rattle.rules.specs.declared.Denial.{Denial}
-use Rattle.calculus.specs.Terms.{term}
 use Rattle.constraints.specs.declared.Constraint.{Constraint as Coded}
 use Rattle.constraints.specs.declared.Constraint.TheVariants.{Member, Nonmember, Same, Different, Related, Negated, Listed}
-use Rattle.constraints.specs.Decoded.{decoded, Handled}
+use Rattle.constraints.specs.Decoded.{decoded, entries_in, Handled}
 use Rattle.places.specs.Places.{RuleOf, move_at, first_at}
 
 abbrev pub Low : Literal → Type 0
@@ -93,15 +92,15 @@ rests_by parents rows entries split (Member t A) = false
 rests_by parents rows entries split (Nonmember t A) = false
 rests_by parents rows entries split (Same t u) = false
 rests_by parents rows entries split (Different t u) = eqb (bit_and (2 ^ root_of parents t.0) (2 ^ root_of parents u.0)) 0
-rests_by parents rows entries split (Related k A B C) = false
-rests_by parents rows entries split (Negated k A B C w) = false
-rests_by parents rows entries split (Listed k A) = eqb (unshared_of rows entries split A) 0
+rests_by parents rows entries split (Related k s) = false
+rests_by parents rows entries split (Negated k s w) = false
+rests_by parents rows entries split (Listed k A es) = eqb (unshared_of rows entries split A) 0
 
--- rule j of a constraint that is decoded as l, with its entries, also as bits
-pub record Asked (list : List ℕ) (word : ℕ) (l : Coded) (j : ℕ) : Type 0 where
-  pub handled : Handled list l
-  pub of_rule : RuleOf (decoded (map term list) l) j
-  pub entries : EntryBits list word
+-- rule j of a constraint that is decoded as l, with its entries as bits
+pub record Asked (word : ℕ) (l : Coded) (j : ℕ) : Type 0 where
+  pub handled : Handled l
+  pub of_rule : RuleOf (decoded l) j
+  pub entries : EntryBits (entries_in l) word
 
 -- the parents and rows are those of a branch
 pub record Shown (b : Branch) (parents rows : List ℕ) : Type 0 where
@@ -113,5 +112,5 @@ abbrev pub Fits : ℕ → Branch → Constraint → ℕ → ℕ → Type 0
 Fits n b l j w = Option.map (λ (p : ℕ). (move_at b l j p).0.index) (first_at n b l j) ≡ first (bit w) (up_from 0 n)
 
 -- so it is in every branch that parents and rows are of
-abbrev pub FitsFor : (parents rows list : List ℕ) → Coded → (j w : ℕ) → Type 0
-FitsFor parents rows list l j w = (n : ℕ) (b : Branch) → n ≤ most_terms → ConstraintIn n most_sets (decoded (map term list) l) → Shown b parents rows → Fits n b (decoded (map term list) l) j w
+abbrev pub FitsFor : (parents rows : List ℕ) → Coded → (j w : ℕ) → Type 0
+FitsFor parents rows l j w = (n : ℕ) (b : Branch) → n ≤ most_terms → ConstraintIn n most_sets (decoded l) → Shown b parents rows → Fits n b (decoded l) j w

@@ -130,13 +130,13 @@ fn unshared(b: &Branch, entries: u64, a: SetVar, split: bool) -> u64
 }
 
 // One test shows that no propagation rule of a constraint applies, or no split. Only of constraints of kind 4 and of lists there is such a test.
-pub fn rests(b: &Branch, entries: u64, l: Constraint, split: bool) -> bool
-    requires { Falls b.now.parents × ConstraintIn most_terms most_sets (decoded [] l) }
-    ensures { result ≡ rests_by b.now.parents b.now.rows entries split l }
+pub fn rests(b: &Branch, entries: u64, l: &Constraint, split: bool) -> bool
+    requires { Falls b.now.parents × ConstraintIn most_terms most_sets (decoded l.now) }
+    ensures { result ≡ rests_by b.now.parents b.now.rows entries split l.now }
 {
-    match l {
+    match *l {
         Constraint::Different(t, u) => together(b, t, u) == 0,
-        Constraint::Listed(_, a) => unshared(b, entries, a, split) == 0,
+        Constraint::Listed(_, a, _) => unshared(b, entries, a, split) == 0,
         _ => false,
     }
 }
@@ -153,23 +153,23 @@ fn by_entries(b: &Branch, list: &[u8], entries: u64, a: SetVar, rule: u8) -> u64
     row & !entries & !entry_roots(list, b)
 }
 
-// The roots, as bits, at which a rule of a constraint applies; of rule 19 only that of the first entry at which it does.
-pub fn fitting(b: &Branch, list: &[u8], word: u64, l: Constraint, rule: u8) -> u64
-    requires { Falls b.now.parents × Asked list.now word l rule }
-    ensures { FitsFor b.now.parents b.now.rows list.now l rule result }
+// The roots, as bits, at which a rule of a constraint applies, whose entries are also handed as bits; of rule 19 only that of the first entry at which it does.
+pub fn fitting(b: &Branch, entries: u64, l: &Constraint, rule: u8) -> u64
+    requires { Falls b.now.parents × Asked entries l.now rule }
+    ensures { FitsFor b.now.parents b.now.rows l.now rule result }
 {
-    match l {
+    match *l {
         Constraint::Member(t, a) => bit_at(root(b, t).0) & !of(b, Literal(a.0)),
         Constraint::Nonmember(t, a) => bit_at(root(b, t).0) & !of(b, Literal(OUT + a.0)),
         Constraint::Same(t, u) => bit_at(root(b, t).0) & !bit_at(root(b, u).0),
         Constraint::Different(t, u) => together(b, t, u),
-        Constraint::Related(_, a, x, y) => {
+        Constraint::Related(_, of) => {
             if rule == 12 {
-                return divided(b, split_of(a, x, y));
+                return divided(b, split_of(of));
             }
-            forced(b, row_of(rule, a, x, y))
+            forced(b, row_of(rule, of))
         }
-        Constraint::Negated(_, a, x, y, w) => denied(b, denial_of(a, x, y), w),
-        Constraint::Listed(_, a) => by_entries(b, list, word, a, rule),
+        Constraint::Negated(_, of, w) => denied(b, denial_of(of), w),
+        Constraint::Listed(_, a, list) => by_entries(b, list, entries, a, rule),
     }
 }

@@ -2,7 +2,7 @@
 use mathlib.Core.Path.{◌≡◌, refl, sym, ap, ap₂, ◌∙◌}
 use mathlib.Core.Logic.{◌⊎◌, inl, inr}
 use mathlib.Core.Bool.{Bool, true, ◌&&◌, ◌||◌, or-false, or_assoc}
-use mathlib.Core.List.{List, map}
+use mathlib.Core.List.{List}
 use Prim.Native.Nat.{ℕ, zero, suc, ◌+◌, ◌^◌, ◌<◌, ◌≤◌}
 use native.Mathlib.Omega.{arith}
 use native.Mathlib.Decide.{ℕ_discrete}
@@ -27,7 +27,8 @@ use Rattle.problem.proofs.Access.{opened_sizes, constraint_count}
 use Rattle.places.specs.Places.{entries_of}
 use Rattle.branch.specs.Rows.{literal_count}
 use Rattle.constraints.specs.declared.Constraint.{Constraint}
-use Rattle.constraints.specs.Decoded.{decoded, Unpacked}
+use Rattle.constraints.specs.Decoded.{decoded, entries_in, Unpacked}
+use Rattle.constraints.proofs.Decoding.{entries_as}
 use Rattle.fits.specs.Words.{EntryBits}
 use Rattle.quiet.specs.Quiet.{WordsOf, mark_count, mark_word, word_count, pair_mark, split_mark}
 use Rattle.marks.specs.Marks.{NeedsOf, Marked}
@@ -104,9 +105,9 @@ gather_end {words} {all} {found} g e i = sym (or-false (bit found i)) ∙ ap (λ
 
 -- ---- the words of the constraints before i
 
--- the entries of constraint i are those of the list that it is unpacked with
-pub entries_by : {bs : List ℕ} {i : ℕ} {es : List ℕ} {l : Constraint} → Unpacked bs i es l → (h : ℕ) → any (λ (e : Term). eqb e.index h) (entries_of (constraint_of bs i)) ≡ any (λ (e : ℕ). eqb e h) es
-entries_by {es = es} u h = ap (λ (x : calculus.Constraint). any (λ (e : Term). eqb e.index h) (entries_of x)) u.is ∙ ap (any (λ (e : Term). eqb e.index h)) u.handled.entries_are ∙ any_map (λ (e : Term). eqb e.index h) term es
+-- the entries of constraint i are those of what it is decoded as
+pub entries_by : {bs : List ℕ} {i : ℕ} {l : Constraint} → Unpacked bs i l → (h : ℕ) → any (λ (e : Term). eqb e.index h) (entries_of (constraint_of bs i)) ≡ any (λ (e : ℕ). eqb e h) (entries_in l)
+entries_by {l = l} u h = ap (λ (x : calculus.Constraint). any (λ (e : Term). eqb e.index h) (entries_of x)) u.is ∙ ap (any (λ (e : Term). eqb e.index h)) (entries_as l) ∙ any_map (λ (e : Term). eqb e.index h) term (entries_in l)
 
 abbrev FilledAt : List ℕ → List ℕ → ℕ → Type 0
 FilledAt bs words k = ((h : ℕ) → bit (get_or words k 0) h ≡ any (λ (e : Term). eqb e.index h) (entries_of (constraint_of bs k))) × (get_or words k 0 < 2 ^ 64)
@@ -121,8 +122,8 @@ pub record Filled (bs words : List ℕ) (i : ℕ) : Type 0 where
 pub fill_start : (bs : List ℕ) → Filled bs (replicate word_count 0) 0
 fill_start bs = record { long = refl; entries = λ k l. absurd (omega arith); needed = λ k l. absurd (omega arith); low = λ h k e. clash e (ap (λ (x : ℕ). bit x k) (zeros word_count (mark_word h)) ∙ bit_zero k); in_problem = omega arith }
 
-pub fill_next : {bs words after : List ℕ} {i : ℕ} {es : List ℕ} {l : Constraint} {w literals : ℕ} → Filled bs words i → (tab : Table) → Opened bs tab → i < tab.constraints → Unpacked bs i es l → EntryBits es w → ((ts : List Term) → NeedsOf (decoded ts l) literals) → Marked literals i (set words i w) after → Filled bs after (i + 1)
-fill_next {bs} {words} {after} {i} {es} {w = w} {literals} f tab o t u b n m = record {
+pub fill_next : {bs words after : List ℕ} {i : ℕ} {l : Constraint} {w literals : ℕ} → Filled bs words i → (tab : Table) → Opened bs tab → i < tab.constraints → Unpacked bs i l → EntryBits (entries_in l) w → NeedsOf (decoded l) literals → Marked literals i (set words i w) after → Filled bs after (i + 1)
+fill_next {bs} {words} {after} {i} {w = w} {literals} f tab o t u b n m = record {
   long = m.long ∙ length-set words i w ∙ f.long;
   entries = λ k l. entry k l (ℕ_discrete k i);
   needed = λ k l. need k l (ℕ_discrete k i);
@@ -141,7 +142,7 @@ fill_next {bs} {words} {after} {i} {es} {w = w} {literals} f tab o t u b n m = r
     entry k l (no e) = rw (m.front k (omega (arith, few)), get_or-set_other words i k w 0 e) (f.entries k (omega arith))
 
     need : (k : ℕ) → k < i + 1 → Dec (k ≡ i) → (x : ℕ) × NeedsOf (constraint_of bs k) x × ((h : ℕ) → bit x h ≡ true → bit (get_or after (mark_word h) 0) k ≡ true)
-    need k l (yes e) = (literals, rw (e, u.is) (n (map term es)), λ h q. bits h k ∙ or_r (bit (get_or words (mark_word h) 0) k) (and_i q (eq-eqb k i e)))
+    need k l (yes e) = (literals, rw (e, u.is) n, λ h q. bits h k ∙ or_r (bit (get_or words (mark_word h) 0) k) (and_i q (eq-eqb k i e)))
     need k l (no e) = let v = f.needed k (omega arith) in (v.0, v.1, λ h q. bits h k ∙ or_l (bit literals h && eqb k i) (v.2 h q))
 
     lower : (h k : ℕ) → (bit (get_or words (mark_word h) 0) k ≡ true) ⊎ ((bit literals h && eqb k i) ≡ true) → k < i + 1

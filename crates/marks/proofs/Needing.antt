@@ -10,8 +10,6 @@ use lib.ListN.{length, get_or}
 use lib.Dec.{eqb, ltb}
 use lib.Bits.{bit_or, or_lt}
 use lib.Pow.{pow-lt}
-use types.Run.{OneOf, miss}
-use denote.Enum.Declared.{tag_of}
 use borrow.Author.Tests.{eq-eqb, eqb-true, eqb-false, ltb-true}
 use Rattle.calculus.specs.Limits.{most_sets}
 use Rattle.calculus.specs.Lists.{imp, all, any, bit}
@@ -25,21 +23,21 @@ use Rattle.problem.specs.Table.{kind_of}
 use Rattle.places.specs.Places.{propagation_span, split_span, InSpan, RuleOf, row_of}
 use Rattle.terms.specs.declared.SetVar.{SetVar as CodedSet}
 use Rattle.constraints.specs.declared.Relation.{Relation as CodedRelation}
-use Rattle.constraints.specs.declared.Constraint.{Constraint as Coded}
-use Rattle.constraints.specs.declared.Constraint.TheVariants.{Member, Nonmember, Same, Different, Related, Negated, Listed}
+use Rattle.constraints.specs.declared.Constraint.TheVariants.{Related, Listed}
 use Rattle.constraints.specs.declared.Entries.{Entries}
 use Rattle.constraints.specs.declared.Entries.TheVariants.{Written, Interval}
 use Rattle.constraints.specs.Decoded.{relation_of, decoded}
-use Rattle.constraints.specs.contracts.Constraint.{the_type}
+use Rattle.constraints.specs.declared.Operands.{Operands}
+use Rattle.std.proofs.Common.{Bor}
 use Rattle.rules.specs.declared.Row.{Row}
 use Rattle.rules.specs.declared.Split.{Split}
 use Rattle.rules.specs.Spans.{Spanned}
-use Rattle.rules.specs.Rows.{HasRow, numbered, literal_number, head, last, laid, parted}
+use Rattle.rules.specs.Rows.{HasRow, sets, numbered, literal_number, head, last, laid, parted}
 use Rattle.fits.proofs.TableTests.{row_of_relation}
 use Rattle.fits.specs.Words.{LowRow, LowSplit}
 use Rattle.fits.proofs.RowBits.{laid_low, parted_low}
 use Rattle.quiet.specs.Quiet.{needs, pairs, pair_mark, split_mark, mark_count, rest_mark}
-use Rattle.marks.specs.Marks.{RuleNeeds, NeedsOf}
+use Rattle.marks.specs.Marks.{Premised, RuleNeeds, NeedsOf}
 
 -- ---- bits of a word
 
@@ -106,37 +104,37 @@ module _ (k : Relation) (A B C j w : ℕ) where
       go h (inl q) = subst (λ (m : ℕ). bit w m ≡ true) (eqb-true (literal_number s (head firsts)) h q) x
       go h (inr q) = subst (λ (m : ℕ). bit w m ≡ true) (eqb-true (literal_number s (last firsts)) h q) y
 
--- a word has what propagation rule j of sets needs, whatever relation has the rule
-abbrev pub Premised : (A B C j w : ℕ) → Type 0
-Premised A B C j w = (w < 2 ^ rest_mark) × ((k : Relation) → RuleOf (relation k (set_var A) (set_var B) (set_var C)) j → RuleNeeds (relation k (set_var A) (set_var B) (set_var C)) j w)
+-- the sets are below the limit
+abbrev pub InRange : Operands → Type 0
+InRange s = (s.0.0 < most_sets) × (s.1.0 < most_sets) × (s.2.0 < most_sets)
 
 -- a row laid out has literals, and so has a split
-pub row_low : {A B C : ℕ} (j : ℕ) → (A < most_sets) × (B < most_sets) × (C < most_sets) → {x : Row} → x ≡ laid (operand_of A B C) (numbered j) → LowRow x
-row_low {A} {B} {C} j low p = subst LowRow (sym p) (laid_low A B C low (numbered j))
+pub row_low : {s : Operands} (j : ℕ) → InRange s → {x : Row} → x ≡ laid (sets s) (numbered j) → LowRow x
+row_low {s} j low p = subst LowRow (sym p) (laid_low s.0.0 s.1.0 s.2.0 low (numbered j))
 
-pub split_low : {A B C : ℕ} → (A < most_sets) × (B < most_sets) × (C < most_sets) → {x : Split} → x ≡ parted (operand_of A B C) (numbered 12) → LowSplit x
-split_low {A} {B} {C} low p = subst LowSplit (sym p) (parted_low A B C low (numbered 12))
+pub split_low : {s : Operands} → InRange s → {x : Split} → x ≡ parted (sets s) (numbered 12) → LowSplit x
+split_low {s} low p = subst LowSplit (sym p) (parted_low s.0.0 s.1.0 s.2.0 low (numbered 12))
 
 -- x is the rule laid out for its sets, and y for three that differ
-module _ {A B C : ℕ} (j : ℕ) (low : (A < most_sets) × (B < most_sets) × (C < most_sets)) {x y : Row} (p : x ≡ laid (operand_of A B C) (numbered j)) (q : y ≡ laid (operand_of 0 1 2) (numbered j)) {u v : ℕ} (m : u ≡ 2 ^ x.0.0) (n : v ≡ 2 ^ x.1.0) where
+module _ {s : Operands} (j : ℕ) (low : InRange s) {x y : Row} (p : x ≡ laid (sets s) (numbered j)) (q : y ≡ laid (operand_of 0 1 2) (numbered j)) {u v : ℕ} (m : u ≡ 2 ^ x.0.0) (n : v ≡ 2 ^ x.1.0) where
   abbrev both : ℕ
   both = bit_or u v
 
   both_small : both < 2 ^ rest_mark
   both_small = let l = row_low j low p in or_lt rest_mark u v (rw m (pow_small x.0.0 (omega (arith, l.0)))) (rw n (pow_small x.1.0 (omega (arith, l.1))))
 
-  by_premises : (w : ℕ) → ((h : ℕ) → bit both h ≡ true → bit w h ≡ true) → (¬ (y.0.0 ≡ y.1.0) → bit w pair_mark ≡ true) → (k : Relation) → RuleOf (relation k (set_var A) (set_var B) (set_var C)) j → RuleNeeds (relation k (set_var A) (set_var B) (set_var C)) j w
+  by_premises : (w : ℕ) → ((h : ℕ) → bit both h ≡ true → bit w h ≡ true) → (¬ (y.0.0 ≡ y.1.0) → bit w pair_mark ≡ true) → (k : CodedRelation) → RuleOf (decoded (Related k s)) j → RuleNeeds (decoded (Related k s)) j w
   by_premises w f z k r =
-      by_row k A B C j w (row_of_relation k (set_var A) (set_var B) (set_var C) j r).is
+      by_row (relation_of k) s.0.0 s.1.0 s.2.0 j w (row_of_relation (relation_of k) (set_var s.0.0) (set_var s.1.0) (set_var s.2.0) j r).is
       (subst (λ (t : Row). bit w t.0.0 ≡ true) p (f x.0.0 (bit_left u v x.0.0 (rw m (bit_own x.0.0)))))
       (subst (λ (t : Row). bit w t.1.0 ≡ true) p (f x.1.0 (bit_right u v x.1.0 (rw n (bit_own x.1.0)))))
       (λ e. z (subst (λ (t : Row). ¬ (t.0.0 ≡ t.1.0)) (sym q) (eqb-false _ _ (not_t _ (two_apart j e)))))
 
-  pub one_premise : y.0.0 ≡ y.1.0 → Premised A B C j both
-  one_premise e = (both_small, by_premises both (λ h g. g) (λ z. absurd (z e)))
+  pub one_premise : y.0.0 ≡ y.1.0 → Premised s j both
+  one_premise e = record { small = both_small; needed = by_premises both (λ h g. g) (λ z. absurd (z e)) }
 
-  pub two_premises : {t : ℕ} → t ≡ 2 ^ pair_mark → Premised A B C j (bit_or both t)
-  two_premises {t} e = (or_lt rest_mark both t both_small (rw e (omega arith)), by_premises (bit_or both t) (bit_left both t) (λ _. bit_right both t pair_mark (rw e (bit_own pair_mark))))
+  pub two_premises : {t : ℕ} → t ≡ 2 ^ pair_mark → Premised s j (bit_or both t)
+  two_premises {t} e = record { small = or_lt rest_mark both t both_small (rw e (omega arith)); needed = by_premises (bit_or both t) (bit_left both t) (λ _. bit_right both t pair_mark (rw e (bit_own pair_mark))) }
 
 -- rule 12 is the split, and no propagation rule
 rule_12 : (k : Relation) (A B C : SetVar) (j : ℕ) → (InSpan (propagation_span (relation k A B C)) j → ¬ (j ≡ 12)) × (InSpan (split_span (relation k A B C)) j → j ≡ 12)
@@ -177,12 +175,9 @@ unsplit : {P : Type 0} (j : ℕ) → InSpan (0, 0) j → P
 unsplit j v = absurd (omega (arith, v.1))
 
 -- a relation of sets that are in range
-module _ (k : CodedRelation) (A B C : CodedSet) where
+module _ (k : CodedRelation) (S : Operands) where
   abbrev related : Constraint
-  related = relation (relation_of k) (set_var A.0) (set_var B.0) (set_var C.0)
-
-  abbrev InRange : Type 0
-  InRange = (A.0 < most_sets) × (B.0 < most_sets) × (C.0 < most_sets)
+  related = decoded (Related k S)
 
   -- before its first propagation rule nothing is needed
   pub needs_start : {first end : ℕ} → Spanned false (kind_of related) first end → Before related first end 0
@@ -190,17 +185,17 @@ module _ (k : CodedRelation) (A B C : CodedSet) where
 
   module _ {j end word : ℕ} (f : Before related j end word) where
     -- what `premises` is asked for
-    pub premises_asked : InRange → j < end → HasRow j A B × (C.0 < most_sets)
+    pub premises_asked : InRange S → j < end → HasRow j S × (S.2.0 < most_sets)
     premises_asked r b =
         let v : InSpan (propagation_span related) j = (f.begun, omega (arith, f.ends)) in
-        let t = row_of_relation (relation_of k) (set_var A.0) (set_var B.0) (set_var C.0) j (inl v) in
-        (record { low = t.low; high = t.high; no_negation = t.no_seven; no_split = (rule_12 (relation_of k) (set_var A.0) (set_var B.0) (set_var C.0) j).0 v; first_set = r.0; second_set = r.1 }, r.2)
+        let t = row_of_relation (relation_of k) (set_var S.0.0) (set_var S.1.0) (set_var S.2.0) j (inl v) in
+        (record { low = t.low; high = t.high; no_negation = t.no_seven; no_split = (rule_12 (relation_of k) (set_var S.0.0) (set_var S.1.0) (set_var S.2.0) j).0 v; low_pair = (r.0, r.1) }, r.2)
 
-    pub needs_next : {w : ℕ} → Premised A.0 B.0 C.0 j w → Before related (j + 1) end (bit_or word w)
-    needs_next {w} g = record { begun = omega (arith, f.begun); ends = f.ends; rules = λ m v h. go m v h (ℕ_discrete m j); small = or_lt rest_mark word w f.small g.0 }
+    pub needs_next : {w : ℕ} → Premised S j w → Before related (j + 1) end (bit_or word w)
+    needs_next {w} g = record { begun = omega (arith, f.begun); ends = f.ends; rules = λ m v h. go m v h (ℕ_discrete m j); small = or_lt rest_mark word w f.small g.small }
       where
         go : (m : ℕ) → InSpan (propagation_span related) m → m < j + 1 → Dec (m ≡ j) → RuleNeeds related m (bit_or word w)
-        go m v h (yes q) = wider (subst (λ (x : ℕ). RuleNeeds related x w) (sym q) (g.1 (relation_of k) (inl (subst (InSpan (propagation_span related)) q v)))) (bit_or word w) (λ x. bit_right word w x)
+        go m v h (yes q) = wider (subst (λ (x : ℕ). RuleNeeds related x w) (sym q) (g.needed k (inl (subst (InSpan (propagation_span related)) q v)))) (bit_or word w) (λ x. bit_right word w x)
         go m v h (no q) = wider (f.rules m v (omega arith)) (bit_or word w) (λ x. bit_left word w x)
 
     -- past the last: without a split, and with one
@@ -215,23 +210,23 @@ module _ (k : CodedRelation) (A B C : CodedSet) where
       pub no_split : to ≤ from → NeedsOf related word
       no_split n = let q = g related refl in needs_with word (omega (arith, f.small)) (λ x y. y) (λ m v. absurd (omega (arith, q.0, q.1, v.0, v.1)))
 
-      pub with_split : InRange → {x : Split} → x ≡ parted (operand_of A.0 B.0 C.0) (numbered 12) → {v w : ℕ} → v ≡ 2 ^ x.0.0 → w ≡ 2 ^ split_mark → NeedsOf related (bit_or (bit_or word v) w)
-      with_split r {x} p {v} {w} q o = needs_with all (or_lt mark_count (bit_or word v) w (or_lt mark_count word v (omega (arith, f.small)) (rw own (omega (arith, pow_small C.0 (omega (arith, r.2)))))) (rw o (omega arith))) (λ y z. bit_left (bit_or word v) w y (bit_left word v y z)) (λ m s. (there m s, bit_right (bit_or word v) w 18 (rw o (bit_own split_mark))))
+      pub with_split : InRange S → {x : Split} → x ≡ parted (sets S) (numbered 12) → {v w : ℕ} → v ≡ 2 ^ x.0.0 → w ≡ 2 ^ split_mark → NeedsOf related (bit_or (bit_or word v) w)
+      with_split r {x} p {v} {w} q o = needs_with all (or_lt mark_count (bit_or word v) w (or_lt mark_count word v (omega (arith, f.small)) (rw own (omega (arith, pow_small S.2.0 (omega (arith, r.2)))))) (rw o (omega arith))) (λ y z. bit_left (bit_or word v) w y (bit_left word v y z)) (λ m s. (there m s, bit_right (bit_or word v) w 18 (rw o (bit_own split_mark))))
         where
           all : ℕ
           all = bit_or (bit_or word v) w
 
-          own : v ≡ 2 ^ C.0
+          own : v ≡ 2 ^ S.2.0
           own = q ∙ ap (λ (y : Split). 2 ^ y.0.0) p
 
-          set : bit all C.0 ≡ true
-          set = bit_left (bit_or word v) w C.0 (bit_right word v C.0 (rw own (bit_own C.0)))
+          set : bit all S.2.0 ≡ true
+          set = bit_left (bit_or word v) w S.2.0 (bit_right word v S.2.0 (rw own (bit_own S.2.0)))
 
           there : (m : ℕ) → InSpan (split_span related) m → RuleNeeds related m all
           there m s =
-              let z : m ≡ 12 = (rule_12 (relation_of k) (set_var A.0) (set_var B.0) (set_var C.0) m).1 s in
-              let r : row_of (relation_of k) 12 ≡ numbered 12 = rw z at (row_of_relation (relation_of k) (set_var A.0) (set_var B.0) (set_var C.0) m (inr s)).is in
-              rw z (by_row (relation_of k) A.0 B.0 C.0 12 all r set set (λ y. absurd (false≢true y)))
+              let z : m ≡ 12 = (rule_12 (relation_of k) (set_var S.0.0) (set_var S.1.0) (set_var S.2.0) m).1 s in
+              let r : row_of (relation_of k) 12 ≡ numbered 12 = rw z at (row_of_relation (relation_of k) (set_var S.0.0) (set_var S.1.0) (set_var S.2.0) m (inr s)).is in
+              rw z (by_row (relation_of k) S.0.0 S.1.0 S.2.0 12 all r set set (λ y. absurd (false≢true y)))
 
 pub different_needs : {t u : Term} {v w : ℕ} → v ≡ 2 ^ pair_mark → w ≡ 2 ^ rest_mark → NeedsOf (different t u) (bit_or v w)
 different_needs p q = rw (p, q) (record { rules = λ j r. record { needing = λ k z. absurd (false≢true z); paired = λ z. bit_left (2 ^ pair_mark) (2 ^ rest_mark) 16 (bit_own pair_mark) }; splits = unsplit; small = or_lt mark_count (2 ^ pair_mark) (2 ^ rest_mark) (omega arith) (omega arith) })
@@ -239,16 +234,6 @@ different_needs p q = rw (p, q) (record { rules = λ j r. record { needing = λ 
 pub negated_needs : {k : Negation} {A B C : SetVar} {t : Term} {w : ℕ} → w ≡ 2 ^ split_mark → NeedsOf (negation k A B C t) w
 negated_needs q = rw q (nothing_needed (2 ^ split_mark) (omega arith) (λ j k. refl) (λ j. refl) (λ j v. bit_own split_mark))
 
-pub listed_needs : (k : Entries) {A : CodedSet} → A.0 < most_sets → {v w x : ℕ} → v ≡ 2 ^ A.0 → w ≡ 2 ^ rest_mark → x ≡ 2 ^ split_mark → (es : List Term) → NeedsOf (decoded es (Listed k A)) (bit_or (bit_or v w) x)
+pub listed_needs : (k : Entries) {A : CodedSet} → A.0 < most_sets → {v w x : ℕ} → v ≡ 2 ^ A.0 → w ≡ 2 ^ rest_mark → x ≡ 2 ^ split_mark → (es : Bor (List ℕ)) → NeedsOf (decoded (Listed k A es)) (bit_or (bit_or v w) x)
 listed_needs Written {A} l p q r es = rw (p, q, r) (list_needs A.0 l (λ j k. refl) (λ j. refl))
 listed_needs (Interval t u) {A} l p q r es = rw (p, q, r) (list_needs A.0 l (λ j k. refl) (λ j. refl))
-
--- any other constraint has no split, and no rule that needs a literal
-pub others_need : (l : Coded) → OneOf (0 ∷ 1 ∷ 2 ∷ []) (tag_of the_type l) → (es : List Term) → NeedsOf (decoded es l) 0
-others_need (Member t A) o es = nothing_needed 0 (omega arith) (λ j k. refl) (λ j. refl) unsplit
-others_need (Nonmember t A) o es = nothing_needed 0 (omega arith) (λ j k. refl) (λ j. refl) unsplit
-others_need (Same t u) o es = nothing_needed 0 (omega arith) (λ j k. refl) (λ j. refl) unsplit
-others_need (Different t u) o es = absurd (miss (0 ∷ 1 ∷ 2 ∷ []) 3 tt o)
-others_need (Related k A B C) o es = absurd (miss (0 ∷ 1 ∷ 2 ∷ []) 4 tt o)
-others_need (Negated k A B C w) o es = absurd (miss (0 ∷ 1 ∷ 2 ∷ []) 5 tt o)
-others_need (Listed k A) o es = absurd (miss (0 ∷ 1 ∷ 2 ∷ []) 6 tt o)

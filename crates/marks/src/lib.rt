@@ -3,20 +3,16 @@
 
 mod prepared;
 
-ghost use Rattle.std.specs.Prelude.{◌≡◌, List, [], ◌^◌, ◌<◌, length};
+ghost use Rattle.std.specs.Prelude.{◌≡◌, ◌^◌, ◌<◌};
 ghost use Rattle.calculus.specs.Limits.{most_sets, most_constraints, most_terms};
-ghost use Rattle.calculus.specs.Terms.{Term, set_var};
 ghost use Rattle.calculus.specs.Invariants.{ConstraintIn};
-ghost use Rattle.calculus.specs.Relations.{Relation};
-ghost use Rattle.calculus.specs.Meaning.{relation};
 ghost use Rattle.constraints.specs.Decoded.{decoded};
-ghost use Rattle.places.specs.Places.{RuleOf};
 ghost use Rattle.rules.specs.Rows.{HasRow};
-ghost use Rattle.quiet.specs.Quiet.{mark_count, word_count, rest_mark};
-ghost use Rattle.marks.specs.Marks.{RuleNeeds, NeedsOf, Marked};
+ghost use Rattle.quiet.specs.Quiet.{mark_count, word_count};
+ghost use Rattle.marks.specs.Marks.{Premised, NeedsOf, Marked};
 
 use bits::{Ones, bit_at};
-use constraints::{Constraint, decode, entries_of};
+use constraints::{Constraint, Operands, decode};
 use fits::entry_bits;
 pub use prepared::Prepared;
 use problem::Problem;
@@ -39,15 +35,15 @@ pub const SPLIT_WORD: usize = PAIR_WORD + 2;
 
 pub const WORDS: usize = PAIR_WORD + 3;
 
-// The literals, as bits, that a propagation rule of sets a, b and c needs. PAIR says that it needs two.
-fn premises(rule: u8, a: SetVar, b: SetVar, c: SetVar) -> u64
-    requires { HasRow rule a b × (c.0 < most_sets) }
-    ensures { (result < 2 ^ rest_mark) × ((k : Relation) → RuleOf (relation k (set_var a.0) (set_var b.0) (set_var c.0)) rule → RuleNeeds (relation k (set_var a.0) (set_var b.0) (set_var c.0)) rule result) }
+// The literals, as bits, that a propagation rule of three sets needs. PAIR says that it needs two.
+fn premises(rule: u8, of: Operands) -> u64
+    requires { HasRow rule of × (of.2.0 < most_sets) }
+    ensures { Premised of rule result }
 {
-    let r = row_of(rule, a, b, c);
+    let r = row_of(rule, of);
     let word = bit_at(r.0.0) | bit_at(r.1.0);
     // Sets may be the same. That a rule needs two literals shows at three that differ.
-    let form = row_of(rule, SetVar(0), SetVar(1), SetVar(2));
+    let form = row_of(rule, Operands(SetVar(0), SetVar(1), SetVar(2)));
     if form.0.0 == form.1.0 {
         return word;
     }
@@ -55,24 +51,24 @@ fn premises(rule: u8, a: SetVar, b: SetVar, c: SetVar) -> u64
 }
 
 // The literals, as bits, that the rules of a constraint need, and its other marks.
-fn needed(l: Constraint) -> u64
-    requires { ConstraintIn most_terms most_sets (decoded [] l) }
-    ensures { (es : List Term) → NeedsOf (decoded es l) result }
+fn needed(l: &Constraint) -> u64
+    requires { ConstraintIn most_terms most_sets (decoded l.now) }
+    ensures { NeedsOf (decoded l.now) result }
 {
-    match l {
+    match *l {
         Constraint::Different(_, _) => bit_at(PAIR) | bit_at(REST),
-        Constraint::Related(_, a, b, c) => {
+        Constraint::Related(_, of) => {
             let mut found = 0u64;
             for j in span_of(l, false) {
-                found |= premises(j, a, b, c);
+                found |= premises(j, of);
             }
             if !span_of(l, true).is_empty() {
-                return found | bit_at(split_of(a, b, c).0.0) | bit_at(SPLIT);
+                return found | bit_at(split_of(of).0.0) | bit_at(SPLIT);
             }
             found
         }
-        Constraint::Negated(_, _, _, _, _) => bit_at(SPLIT),
-        Constraint::Listed(_, a) => bit_at(a.0) | bit_at(REST) | bit_at(SPLIT),
+        Constraint::Negated(_, _, _) => bit_at(SPLIT),
+        Constraint::Listed(_, a, _) => bit_at(a.0) | bit_at(REST) | bit_at(SPLIT),
         _ => 0,
     }
 }
@@ -95,9 +91,8 @@ pub fn prepare<'a>(problem: &Problem<'a>) -> Prepared<'a>
     for i in 0..problem.table.constraints {
         let n = i as usize;
         let l = decode(problem, n);
-        let entries = entries_of(problem, n, l);
-        words[n] = entry_bits(entries);
-        mark(&mut words, needed(l), i);
+        words[n] = entry_bits(l.entries());
+        mark(&mut words, needed(&l), i);
     }
     Prepared {
         problem: *problem,

@@ -3,7 +3,7 @@ use Rattle.std.specs.Prelude.{◌≡◌, Bool, cond, List, [], ◌∷◌, ◌++�
 use Rattle.calculus.specs.Limits.{most_sets}
 use Rattle.calculus.specs.Relations.{Rule, propagation, rows, equal, union, disjoint, subset, intersection, unequal, Operand, operand_of, negation_row}
 use Rattle.calculus.specs.Relations as R
-use Rattle.terms.specs.declared.SetVar.{SetVar}
+use Rattle.constraints.specs.declared.Operands.{Operands}
 use Rattle.rules.specs.declared.Literal.{Literal}
 use Rattle.rules.specs.declared.Row.{Row}
 use Rattle.rules.specs.declared.Split.{Split}
@@ -22,24 +22,26 @@ literals_of j c = get_or (numbered j).alternatives c []
 abbrev pub count_of : ℕ → ℕ
 count_of j = cond (eqb j 7) 2 (cond (eqb j 12) 2 1)
 
--- the numbers of three sets, by operand
-abbrev pub sets : (a b c : SetVar) → Operand → ℕ
-sets a b c = operand_of a.0 b.0 c.0
+-- the numbers of the sets, by operand
+abbrev pub sets : Operands → Operand → ℕ
+sets s = operand_of s.0.0 s.1.0 s.2.0
 
--- rule j has a row, or a child n; its first two sets are a and b
-pub record HasRow (j : ℕ) (a b : SetVar) : Type 0 where
+-- the first two sets are below the limit
+abbrev pub LowPair : Operands → Type 0
+LowPair s = (s.0.0 < most_sets) × (s.1.0 < most_sets)
+
+-- rule j has a row, or a child n, of these sets
+pub record HasRow (j : ℕ) (s : Operands) : Type 0 where
   pub low : 5 ≤ j
   pub high : j ≤ 18
   pub no_negation : ¬ (j ≡ 7)
   pub no_split : ¬ (j ≡ 12)
-  pub first_set : a.0 < most_sets
-  pub second_set : b.0 < most_sets
+  pub low_pair : LowPair s
 
-pub record HasChild (j : ℕ) (a b : SetVar) (n : ℕ) : Type 0 where
+pub record HasChild (j : ℕ) (s : Operands) (n : ℕ) : Type 0 where
   pub low : 5 ≤ j
   pub high : j ≤ 18
-  pub first_set : a.0 < most_sets
-  pub second_set : b.0 < most_sets
+  pub low_pair : LowPair s
   pub there : n < length (numbered j).alternatives
 
 -- the rules of relations that split

@@ -1,14 +1,13 @@
 // The rules as tables: which a constraint has, what each needs and gives.
 #![tactic(auto)]
 
-ghost use Rattle.std.specs.Prelude.{◌≡◌, [], ◌<◌};
-ghost use Rattle.calculus.specs.Limits.{most_sets};
+ghost use Rattle.std.specs.Prelude.{◌≡◌};
 ghost use Rattle.problem.specs.Table.{kind_of};
 ghost use Rattle.constraints.specs.Decoded.{decoded};
 ghost use Rattle.rules.specs.Spans.{Spanned};
-ghost use Rattle.rules.specs.Rows.{sets, numbered, HasRow, HasChild, laid, parted, only, child, literals_of, count_of, denying};
+ghost use Rattle.rules.specs.Rows.{sets, numbered, LowPair, HasRow, HasChild, laid, parted, only, child, literals_of, count_of, denying};
 
-use constraints::{Constraint, Negation, Relation};
+use constraints::{Constraint, Negation, Operands, Relation};
 use std::ops::Range;
 use terms::{OUT, SetVar, Term};
 
@@ -34,44 +33,45 @@ pub struct Denial(pub Child, pub Child, pub Child);
 
 // A rule of a constraint, by its number, and the root that it concerns.
 #[derive(Clone, Copy)]
-pub struct Instance {
-    pub constraint: Constraint,
+pub struct Instance<'a> {
+    pub constraint: Constraint<'a>,
     pub rule: u8,
     pub root: Term,
 }
 
 // The propagation rules of a constraint, by number, or its split.
-pub fn span_of(l: Constraint, split: bool) -> Range<u8>
-    ensures { Spanned split (kind_of (decoded [] l)) result.start result.end }
+pub fn span_of(l: &Constraint, split: bool) -> Range<u8>
+    ensures { Spanned split (kind_of (decoded l.now)) result.start result.end }
 {
     if split {
-        return match l {
-            Constraint::Negated(Negation::Unequal, _, _, _, _) => 7..8,
-            Constraint::Related(Relation::Union, _, _, _) => 12..13,
-            Constraint::Listed(_, _) => 20..21,
+        return match *l {
+            Constraint::Negated(Negation::Unequal, _, _) => 7..8,
+            Constraint::Related(Relation::Union, _) => 12..13,
+            Constraint::Listed(_, _, _) => 20..21,
             _ => 0..0,
         };
     }
-    match l {
+    match *l {
         Constraint::Member(_, _) => 1..2,
         Constraint::Nonmember(_, _) => 2..3,
         Constraint::Same(_, _) => 3..4,
         Constraint::Different(_, _) => 4..5,
-        Constraint::Related(Relation::Equal, _, _, _) => 5..7,
-        Constraint::Related(Relation::Union, _, _, _) => 8..12,
-        Constraint::Related(Relation::Disjoint, _, _, _) => 13..15,
-        Constraint::Related(Relation::Subset, _, _, _) => 15..16,
-        Constraint::Related(Relation::Intersection, _, _, _) => 16..19,
-        Constraint::Listed(_, _) => 19..20,
-        Constraint::Negated(_, _, _, _, _) => 0..0,
+        Constraint::Related(Relation::Equal, _) => 5..7,
+        Constraint::Related(Relation::Union, _) => 8..12,
+        Constraint::Related(Relation::Disjoint, _) => 13..15,
+        Constraint::Related(Relation::Subset, _) => 15..16,
+        Constraint::Related(Relation::Intersection, _) => 16..19,
+        Constraint::Listed(_, _, _) => 19..20,
+        Constraint::Negated(_, _, _) => 0..0,
     }
 }
 
-// Rules 5, 6, 8 to 11 and 13 to 18, of sets a, b and c.
-pub fn row_of(rule: u8, a: SetVar, b: SetVar, c: SetVar) -> Row
-    requires { HasRow rule a b }
-    ensures { result ≡ laid (sets a b c) (numbered rule) }
+// Rules 5, 6, 8 to 11 and 13 to 18.
+pub fn row_of(rule: u8, of: Operands) -> Row
+    requires { HasRow rule of }
+    ensures { result ≡ laid (sets of) (numbered rule) }
 {
+    let Operands(a, b, c) = of;
     let ina = Literal(a.0);
     let inb = Literal(b.0);
     let inc = Literal(c.0);
@@ -95,17 +95,19 @@ pub fn row_of(rule: u8, a: SetVar, b: SetVar, c: SetVar) -> Row
 }
 
 // Rule 12.
-pub fn split_of(a: SetVar, b: SetVar, c: SetVar) -> Split
-    ensures { result ≡ parted (sets a b c) (numbered 12) }
+pub fn split_of(of: Operands) -> Split
+    ensures { result ≡ parted (sets of) (numbered 12) }
 {
+    let Operands(a, b, c) = of;
     Split(Literal(c.0), a, b)
 }
 
 // Rule 7.
-pub fn denial_of(a: SetVar, b: SetVar, c: SetVar) -> Denial
-    requires { (a.0 < most_sets) × (b.0 < most_sets) }
-    ensures { result ≡ denying (sets a b c) (numbered 7) }
+pub fn denial_of(of: Operands) -> Denial
+    requires { LowPair of }
+    ensures { result ≡ denying (sets of) (numbered 7) }
 {
+    let Operands(a, b, _) = of;
     let x = Child(Literal(a.0), Literal(OUT + b.0), Literal(OUT + b.0));
     let y = Child(Literal(OUT + a.0), Literal(b.0), Literal(b.0));
     Denial(x, y, y)
@@ -128,19 +130,19 @@ pub fn alone(l: Literal) -> Child
     Child(l, l, l)
 }
 
-// Child n of a rule from 5 to 18, of sets a, b and c.
-pub fn child_of(rule: u8, a: SetVar, b: SetVar, c: SetVar, n: usize) -> Child
-    requires { HasChild rule a b n }
-    ensures { result ≡ child (sets a b c) (literals_of rule n) }
+// Child n of a rule from 5 to 18.
+pub fn child_of(rule: u8, of: Operands, n: usize) -> Child
+    requires { HasChild rule of n }
+    ensures { result ≡ child (sets of) (literals_of rule n) }
 {
     match (rule, n) {
-        (7, 0) => denial_of(a, b, c).0,
-        (7, _) => denial_of(a, b, c).1,
-        (12, 0) => alone(Literal(split_of(a, b, c).1.0)),
+        (7, 0) => denial_of(of).0,
+        (7, _) => denial_of(of).1,
+        (12, 0) => alone(Literal(split_of(of).1.0)),
         (12, _) => {
-            let s = split_of(a, b, c);
+            let s = split_of(of);
             Child(Literal(OUT + s.1.0), Literal(s.2.0), Literal(s.2.0))
         }
-        _ => alone(row_of(rule, a, b, c).2),
+        _ => alone(row_of(rule, of).2),
     }
 }

@@ -1,10 +1,10 @@
 -- What the loops of `search` keep, and how each goes on. Whatever branch the parents and rows show, the rules that were passed do not apply there. So if the constraints outside the scope are idle, all but those that are left are.
-use mathlib.Core.Path.{◌≡◌, refl, sym, ap, ◌∙◌, subst}
+use mathlib.Core.Path.{◌≡◌, sym, ap, ◌∙◌, subst}
 use mathlib.Core.Logic.{◌⊎◌, inl, inr}
 use mathlib.Core.Bool.{Bool, true, false, ◌&&◌, not, and-true}
 use mathlib.Core.Option
 use mathlib.Core.Option.{some, map-eq-none_iff, map-eq-some_iff, none}
-use mathlib.Core.List.{List, [], map}
+use mathlib.Core.List.{List}
 use Prim.Native.Nat.{ℕ, ◌+◌, ◌-◌, ◌^◌, ◌<◌, ◌≤◌}
 use native.Mathlib.Omega.{arith}
 use native.Mathlib.Decide.{ℕ_discrete}
@@ -31,10 +31,8 @@ use Rattle.problem.specs.Table.{Opened, constraints_of, constraint_of, no_constr
 use Rattle.problem.proofs.Access.{opened_sizes, constraint_count}
 use Rattle.places.specs.Places.{span_of, InSpan, RuleOf, move_at, first_at}
 use Rattle.places.proofs.Offered.{relation_19, position_root, position_of, rule_of}
-use Rattle.constraints.specs.declared.Entries.TheVariants.{Written, Interval}
 use Rattle.constraints.specs.declared.Constraint.{Constraint}
-use Rattle.constraints.specs.declared.Constraint.TheVariants.{Member, Nonmember, Same, Different, Related, Negated, Listed}
-use Rattle.constraints.specs.Decoded.{decoded, Unpacked}
+use Rattle.constraints.specs.Decoded.{decoded, entries_in, Unpacked}
 use Rattle.constraints.proofs.Decoding.{constraint_in}
 use Rattle.rules.specs.Spans.{Spanned}
 use Rattle.fits.specs.Words.{EntryBits, Asked, Shown, Fits, FitsFor}
@@ -74,15 +72,15 @@ module _ (n : ℕ) (b : Branch) (fall : Falls b.parents) where
 
 -- ---- what the loops keep
 
--- constraint i is decoded as l with its entries, which are also bits of a word, and its rules end at end
-pub record Here (split : Bool) (n : ℕ) (bs ps : List ℕ) (i end : ℕ) (es : List ℕ) (bits : ℕ) (l : Constraint) : Type 0 where
+-- constraint i is decoded as l, whose entries are also bits of a word, and its rules end at end
+pub record Here (split : Bool) (n : ℕ) (bs ps : List ℕ) (i end bits : ℕ) (l : Constraint) : Type 0 where
   pub few : n ≤ most_terms
   pub falls : Falls ps
   pub in_problem : i < length (constraints_of (read bs))
   pub ends : end ≡ (span_of split (constraint_of bs i)).1
   pub in_terms : ConstraintIn n most_sets (constraint_of bs i)
-  pub unpacked : Unpacked bs i es l
-  pub entries : EntryBits es bits
+  pub unpacked : Unpacked bs i l
+  pub entries : EntryBits (entries_in l) bits
 
 module _ (split : Bool) (n : ℕ) (bs ps rows : List ℕ) where
   -- the constraints that are left, of those looked at: each is one of m
@@ -92,9 +90,9 @@ module _ (split : Bool) (n : ℕ) (bs ps rows : List ℕ) where
     pub quiet : (b : Branch) → Shown b ps rows → Quiet split n (constraints_of (read bs)) b looked → Quiet split n (constraints_of (read bs)) b left
 
   -- before rule j of constraint i
-  pub record AtRule (i j end : ℕ) (es : List ℕ) (bits : ℕ) (l : Constraint) (r : result.Option Found) : Type 0 where
+  pub record AtRule (i j end bits : ℕ) (l : Constraint) (r : result.Option Found) : Type 0 where
     pub nothing : r ≡ None
-    pub here : Here split n bs ps i end es bits l
+    pub here : Here split n bs ps i end bits l
     pub begun : (span_of split (constraint_of bs i)).0 ≤ j
     pub passed : (b : Branch) → Shown b ps rows → (k : ℕ) → InSpan (span_of split (constraint_of bs i)) k → k < j → first_at n b (constraint_of bs i) k ≡ none
 
@@ -105,23 +103,12 @@ module _ (split : Bool) (n : ℕ) (bs ps rows : List ℕ) where
 
 -- ---- how the search goes
 
--- the kind of a constraint, whatever its entries are
-same_kind : (ts : List Term) (l : Constraint) → kind_of (decoded ts l) ≡ kind_of (decoded [] l)
-same_kind ts (Member t A) = refl
-same_kind ts (Nonmember t A) = refl
-same_kind ts (Same t u) = refl
-same_kind ts (Different t u) = refl
-same_kind ts (Related k A B C) = refl
-same_kind ts (Negated k A B C w) = refl
-same_kind ts (Listed Written A) = refl
-same_kind ts (Listed (Interval x y) A) = refl
-
 -- at the first rule of the constraint whose turn it is
-pub rules_start : {bs : List ℕ} (tab : Table) (i : ℕ) {split : Bool} {first end : ℕ} {ps rows words es : List ℕ} {l : Constraint} {r : result.Option Found} → r ≡ None → Opened bs tab → WordsOf (constraints_of (read bs)) words → Falls ps → i < tab.constraints
-    → Spanned split (kind_of (decoded [] l)) first end → Unpacked bs i es l → AtRule split tab.terms bs ps rows i first end es (get_or words i 0) l r
+pub rules_start : {bs : List ℕ} (tab : Table) (i : ℕ) {split : Bool} {first end : ℕ} {ps rows words : List ℕ} {l : Constraint} {r : result.Option Found} → r ≡ None → Opened bs tab → WordsOf (constraints_of (read bs)) words → Falls ps → i < tab.constraints
+    → Spanned split (kind_of (decoded l)) first end → Unpacked bs i l → AtRule split tab.terms bs ps rows i first end (get_or words i 0) l r
 unfolding constraint_of
-rules_start {bs} tab i {split} {first} {end} {es = es} {l} e o w f k p u =
-    let q = p (constraint_of bs i) (ap kind_of u.is ∙ same_kind (map term es) l) in
+rules_start {bs} tab i {split} {first} {end} {l = l} e o w f k p u =
+    let q = p (constraint_of bs i) (ap kind_of u.is) in
     let s = opened_sizes bs tab o in
     let there : i < length (constraints_of (read bs)) = omega (arith, constraint_count bs tab o) in
     record {
@@ -133,7 +120,7 @@ rules_start {bs} tab i {split} {first} {end} {es = es} {l} e o w f k p u =
         ends = q.1;
         in_terms = constraint_in bs tab i o k tab.terms most_sets (omega arith) s.1;
         unpacked = u;
-        entries = record { below = entries_below es l u.handled; bits = λ h. w.entries i there h ∙ entries_by u h; small = w.small i there };
+        entries = record { below = entries_below l u.handled; bits = λ h. w.entries i there h ∙ entries_by u h; small = w.small i there };
       };
       begun = omega (arith, q.0);
       passed = λ b z k s h. absurd (omega (arith, q.0, s.0));
@@ -146,7 +133,7 @@ module _ {split : Bool} {n : ℕ} {bs ps rows : List ℕ} where
     search_over e b z q = rw a.nothing (no_place split n b (constraints_of (read bs)) (λ i l. a.quiet b z q i l (no_bit left i e)))
 
     -- one was looked through, and is left no more
-    pub next_constraint : {k then j end : ℕ} {es : List ℕ} {bits : ℕ} {l : Constraint} {s : result.Option Found} → Takes left k then → AtRule split n bs ps rows k j end es bits l s → end ≤ j → AtMask split n bs ps rows m looked then s
+    pub next_constraint : {k then j end bits : ℕ} {l : Constraint} {s : result.Option Found} → Takes left k then → AtRule split n bs ps rows k j end bits l s → end ≤ j → AtMask split n bs ps rows m looked then s
     unfolding constraint_of
     next_constraint {k} {then} {j} t g h = record { nothing = g.nothing; there = λ i e. a.there i (takes_left t i e); quiet = λ b z q i l y. go b z q i l y (ℕ_discrete i k) }
       where
@@ -154,19 +141,19 @@ module _ {split : Bool} {n : ℕ} {bs ps rows : List ℕ} where
         go b z q i l y (yes e) = subst (λ (x : ℕ). Idle split n b (get_or (constraints_of (read bs)) x no_constraint)) (sym e) (λ x v. g.passed b z x v (omega (arith, v.1, g.here.ends)))
         go b z q i l y (no e) = a.quiet b z q i l (sym (takes_other t i e) ∙ y)
 
-  module _ {i j end : ℕ} {es : List ℕ} {bits : ℕ} {l : Constraint} {r : result.Option Found} (a : AtRule split n bs ps rows i j end es bits l r) where
+  module _ {i j end bits : ℕ} {l : Constraint} {r : result.Option Found} (a : AtRule split n bs ps rows i j end bits l r) where
     -- rule j is one of the constraint's, and its word can be asked for
     in_span : j < end → InSpan (span_of split (constraint_of bs i)) j
     in_span h = (a.begun, omega (arith, a.here.ends))
 
-    pub asked : j < end → Asked es bits l j
+    pub asked : j < end → Asked bits l j
     asked h = record { handled = a.here.unpacked.handled; of_rule = subst (λ (x : calculus.Constraint). RuleOf x j) a.here.unpacked.is (rule_of split (constraint_of bs i) j (in_span h)); entries = a.here.entries }
 
-    pub roots_start : {fit : ℕ} → FitsFor ps rows es l j fit → AtRoot split n bs ps rows i j fit r
+    pub roots_start : {fit : ℕ} → FitsFor ps rows l j fit → AtRoot split n bs ps rows i j fit r
     roots_start {fit} f = record { nothing = a.nothing; lowest = λ b z. subst (λ (x : calculus.Constraint). Fits n b x j fit) (sym a.here.unpacked.is) (f n b a.here.few (subst (ConstraintIn n most_sets) a.here.unpacked.is a.here.in_terms) z) }
 
     -- no root is left: rule j does not apply
-    pub next_rule : {left : ℕ} {s : result.Option Found} → AtRoot split n bs ps rows i j left s → left ≡ 0 → AtRule split n bs ps rows i (j + 1) end es bits l s
+    pub next_rule : {left : ℕ} {s : result.Option Found} → AtRoot split n bs ps rows i j left s → left ≡ 0 → AtRule split n bs ps rows i (j + 1) end bits l s
     next_rule {left} g e = record { nothing = g.nothing; here = a.here; begun = omega (arith, a.begun); passed = λ b z k v h. go b z k v h (ℕ_discrete k j) }
       where
         go : (b : Branch) → Shown b ps rows → (k : ℕ) → InSpan (span_of split (constraint_of bs i)) k → k < j + 1 → Dec (k ≡ j) → first_at n b (constraint_of bs i) k ≡ none
@@ -178,11 +165,11 @@ module _ {split : Bool} {n : ℕ} {bs ps rows : List ℕ} where
   next_root {left = left} {h} {then} g t e = record { nothing = g.nothing; lowest = λ b z. g.lowest b z ∙ first_no (bit left) n (λ k l. t.lowest k (omega arith)) ∙ sym (first_no (bit then) n (λ k l. takes_other t k (λ q. omega arith) ∙ t.lowest k (omega arith))) }
 
   -- any other is that of the first place: the constraints below the lowest are idle
-  pub search_hit : {m looked left k then j end s h u low : ℕ} {es : List ℕ} {bits : ℕ} {l : Constraint} {r r₁ r₂ : result.Option Found} → AtMask split n bs ps rows m looked left r → Takes left k then → AtRule split n bs ps rows k j end es bits l r₁ → j < end → AtRoot split n bs ps rows k j s r₂ → Takes s h u → h < n
+  pub search_hit : {m looked left k then j end s h u low bits : ℕ} {l : Constraint} {r r₁ r₂ : result.Option Found} → AtMask split n bs ps rows m looked left r → Takes left k then → AtRule split n bs ps rows k j end bits l r₁ → j < end → AtRoot split n bs ps rows k j s r₂ → Takes s h u → h < n
       → looked < 2 ^ 64 → low < 2 ^ 64 → low ≡ 2 ^ k - 1 → ((i : ℕ) → bit looked i ≡ true → i < length (constraints_of (read bs)))
       → (b : Branch) → Shown b ps rows → Quiet split n (constraints_of (read bs)) b looked → IsFirst split n (constraints_of (read bs)) b (record { number = k; instance = record { constraint = l; rule = j; root = record { 0 = h } }; left = bit_and looked (2 ^ 64 - 1 - low) })
   unfolding constraint_of
-  search_hit {looked = looked} {left} {k} {j = j} {s = s} {h} {low = low} {es} {l = l} m t a v g t₂ e small low-small lower there b z q =
+  search_hit {looked = looked} {left} {k} {j = j} {s = s} {h} {low = low} {l = l} m t a v g t₂ e small low-small lower there b z q =
       let c : calculus.Constraint = constraint_of bs k in
       let w = (map-eq-some_iff (λ (p : ℕ). (move_at b c j p).0.index) (first_at n b c j)).0 (g.lowest b z ∙ first_lowest (bit s) h t₂.set t₂.lowest n 0 (omega arith) (omega arith)) in
       let p : ℕ = w.0 in
@@ -200,7 +187,6 @@ module _ {split : Bool} {n : ℕ} {bs ps rows : List ℕ} where
           concerns = ap term w.2;
           low = e;
           rooted = subst (λ (x : ℕ). root_at b x ≡ x) w.2 (concerned_root n b fall c j p d.few range (rule_of split c j y) f);
-          entries = es;
           opened = d.unpacked.is;
           handled = d.unpacked.handled;
         };

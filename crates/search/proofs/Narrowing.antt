@@ -110,11 +110,11 @@ pub in_limits : (bs : List ℕ) (tab : Table) (i : ℕ) → Opened bs tab → i 
 in_limits bs tab i o t = let s = opened_sizes bs tab o in constraint_in bs tab i o t most_terms most_sets s.2 s.1
 
 -- what one test shows to be at rest is idle
-pub rest_idle : (bs : List ℕ) (tab : Table) (i : ℕ) {words ps lines : List ℕ} (split : Bool) (l : Coded) → Opened bs tab → i < tab.constraints → WordsOf (constraints_of (read bs)) words → constraint_of bs i ≡ decoded (entries_of (constraint_of bs i)) l → rests_by ps lines (get_or words i 0) split l ≡ true
+pub rest_idle : (bs : List ℕ) (tab : Table) (i : ℕ) {words ps lines : List ℕ} (split : Bool) (l : Coded) → Opened bs tab → i < tab.constraints → WordsOf (constraints_of (read bs)) words → constraint_of bs i ≡ decoded l → rests_by ps lines (get_or words i 0) split l ≡ true
     → (n : ℕ) (b : Branch) → n ≤ most_terms → Shown b ps lines → Idle split n b (get_or (constraints_of (read bs)) i no_constraint)
 unfolding constraint_of unshared_of
 rest_idle bs tab i {words} {ps} {lines} split l o t w is rest n b few s =
-    subst (λ (x : Constraint). ConstraintIn most_terms most_sets x → ((h : ℕ) → bit word h ≡ any (λ (e : Term). eqb e.index h) (entries_of x)) → Idle split n b x) (sym is) (go l (entries_of (constraint_of bs i)) rest) (in_limits bs tab i o t) (w.entries i there)
+    subst (λ (x : Constraint). ConstraintIn most_terms most_sets x → ((h : ℕ) → bit word h ≡ any (λ (e : Term). eqb e.index h) (entries_of x)) → Idle split n b x) (sym is) (go l rest) (in_limits bs tab i o t) (w.entries i there)
   where
     there : i < length (constraints_of (read bs))
     there = omega (arith, constraint_count bs tab o)
@@ -134,26 +134,15 @@ rest_idle bs tab i {words} {ps} {lines} split l o t w is rest n b few s =
     interval_is true A p q ts h j v = h j v
     interval_is false A p q ts h j v = h j v
 
-    go : (m : Coded) (ts : List Term) → rests_by ps lines word split m ≡ true → ConstraintIn most_terms most_sets (decoded ts m) → ((h : ℕ) → bit word h ≡ any (λ (e : Term). eqb e.index h) (entries_of (decoded ts m))) → Idle split n b (decoded ts m)
-    go (Member x A) ts k c f j v = absurd (false≢true k)
-    go (Nonmember x A) ts k c f j v = absurd (false≢true k)
-    go (Same x y) ts k c f j v = absurd (false≢true k)
-    go (Different x y) ts k c f j v = different_idle split n b (term x.0) (term y.0) (λ q. bits_apart refl (eqb-true _ 0 k) (sym (root x.0) ∙ q ∙ root y.0)) j v
-    go (Related r A B C) ts k c f j v = absurd (false≢true k)
-    go (Negated r A B C x) ts k c f j v = absurd (false≢true k)
-    go (Listed Written A) ts k c f j v = list split A ts c.0 c.1 f k j v
-    go (Listed (Interval x y) A) ts k c f j v = interval_is split A (term x.0) (term y.0) ts (list split A ts c.0 c.1 f k) j v
-
--- its operands are in range, whatever its entries are
-pub unlisted_in : (l : Coded) (ts : List Term) → ConstraintIn most_terms most_sets (decoded ts l) → ConstraintIn most_terms most_sets (decoded [] l)
-unlisted_in (Member t A) ts c = c
-unlisted_in (Nonmember t A) ts c = c
-unlisted_in (Same t u) ts c = c
-unlisted_in (Different t u) ts c = c
-unlisted_in (Related k A B C) ts c = c
-unlisted_in (Negated k A B C w) ts c = c
-unlisted_in (Listed Written A) ts c = (c.0, tt)
-unlisted_in (Listed (Interval x y) A) ts c = (c.0, tt)
+    go : (m : Coded) → rests_by ps lines word split m ≡ true → ConstraintIn most_terms most_sets (decoded m) → ((h : ℕ) → bit word h ≡ any (λ (e : Term). eqb e.index h) (entries_of (decoded m))) → Idle split n b (decoded m)
+    go (Member x A) k c f j v = absurd (false≢true k)
+    go (Nonmember x A) k c f j v = absurd (false≢true k)
+    go (Same x y) k c f j v = absurd (false≢true k)
+    go (Different x y) k c f j v = different_idle split n b (term x.0) (term y.0) (λ q. bits_apart refl (eqb-true _ 0 k) (sym (root x.0) ∙ q ∙ root y.0)) j v
+    go (Related r z) k c f j v = absurd (false≢true k)
+    go (Negated r z x) k c f j v = absurd (false≢true k)
+    go (Listed Written A es) k c f j v = list split A (map term es.now) c.0 c.1 f k j v
+    go (Listed (Interval x y) A es) k c f j v = interval_is split A (term x.0) (term y.0) (map term es.now) (list split A (map term es.now) c.0 c.1 f k) j v
 
 -- ---- masks
 

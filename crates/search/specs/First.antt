@@ -1,6 +1,6 @@
 -- What a search is given, and what it answers: the first place of the calculus where a rule applies.
 use Rattle.std.specs.Prelude as result
-use Rattle.std.specs.Prelude.{◌≡◌, Bool, true, List, map, ℕ, ◌<◌, length, get_or, Some, None}
+use Rattle.std.specs.Prelude.{◌≡◌, Bool, true, List, ℕ, ◌<◌, length, get_or, Some, None}
 use Rattle.std.proofs.Math.Option.{Option, none, some}
 use Rattle.calculus.specs.Limits.{most_terms}
 use Rattle.calculus.specs.Lists.{first, bit}
@@ -40,15 +40,14 @@ first_place_of split n ls b = first (λ (c : Candidate). applies (known b) c.mov
 abbrev pub spot : Found → ℕ → Spot
 spot r position = record { constraint = r.number; rule = r.instance.rule; position = position }
 
--- The answer says what is at its place: the term concerned, which is a root below n, and the constraint as decoded. It has entries that the code handles.
+-- The answer says what is at its place: the term concerned, which is a root below n, and the constraint as decoded. The code handles it.
 pub record Located (split : Bool) (n : ℕ) (ls : List Constraint) (b : Branch) (r : Found) (position : ℕ) : Type 0 where
   pub within : Within split n ls b (spot r position)
   pub concerns : (move_at b (get_or ls r.number no_constraint) r.instance.rule position).0 ≡ term r.instance.root.0
   pub low : r.instance.root.0 < n
   pub rooted : root_at b r.instance.root.0 ≡ r.instance.root.0
-  pub entries : List ℕ
-  pub opened : get_or ls r.number no_constraint ≡ decoded (map term entries) r.instance.constraint
-  pub handled : Handled entries r.instance.constraint
+  pub opened : get_or ls r.number no_constraint ≡ decoded r.instance.constraint
+  pub handled : Handled r.instance.constraint
 
 -- An answer is the first place, with some position. Of the constraints that are not left none has a place.
 pub record IsFirst (split : Bool) (n : ℕ) (ls : List Constraint) (b : Branch) (r : Found) : Type 0 where

@@ -14,7 +14,7 @@ ghost use Rattle.search.specs.First.{Finds};
 
 use bits::{Ones, bit_at, low_bits};
 use branch::Branch;
-use constraints::{decode, entries_of};
+use constraints::decode;
 use fits::{fitting, rests};
 use marks::{Prepared, REST_WORD, SPLIT_WORD};
 use rules::{Instance, span_of};
@@ -29,9 +29,9 @@ pub struct Scope {
 
 // What a search found: the number of a constraint, its rule that applies, and, as bits, the constraints that are left to look at.
 #[derive(Clone, Copy)]
-pub struct Found {
+pub struct Found<'a> {
     pub number: u8,
-    pub instance: Instance,
+    pub instance: Instance<'a>,
     pub left: u64,
 }
 
@@ -46,7 +46,7 @@ fn looked_at(run: &Prepared, b: &Branch, scope: Scope) -> u64
     }
     for n in Ones(kept & run.words[REST_WORD]) {
         let l = decode(&run.problem, n as usize);
-        if rests(b, run.words[n as usize], l, scope.split) {
+        if rests(b, run.words[n as usize], &l, scope.split) {
             kept &= !bit_at(n);
         }
     }
@@ -54,7 +54,7 @@ fn looked_at(run: &Prepared, b: &Branch, scope: Scope) -> u64
 }
 
 // The first place where a propagation rule applies, or where a split does. No constraint that the scope leaves out has one.
-pub fn search(run: &Prepared, b: &Branch, scope: Scope) -> Option<Found>
+pub fn search<'a>(run: &'a Prepared, b: &Branch, scope: Scope) -> Option<Found<'a>>
     requires { Falls b.now.parents × ((i : ℕ) → bit scope.among i ≡ true → i < run.now.problem.table.constraints) }
     ensures { (c : calculus.Branch) → Shown c b.now.parents b.now.rows → Quiet scope.split run.now.problem.table.terms (constraints_of (read run.now.problem.bytes.now)) c scope.among → Finds scope.split run.now.problem.table.terms (constraints_of (read run.now.problem.bytes.now)) c result }
 {
@@ -62,9 +62,8 @@ pub fn search(run: &Prepared, b: &Branch, scope: Scope) -> Option<Found>
     let looked = looked_at(run, b, scope);
     'search: for n in Ones(looked) {
         let l = decode(&run.problem, n as usize);
-        let entries = entries_of(&run.problem, n as usize, l);
-        for rule in span_of(l, scope.split) {
-            let fit = fitting(b, entries, run.words[n as usize], l, rule);
+        for rule in span_of(&l, scope.split) {
+            let fit = fitting(b, run.words[n as usize], &l, rule);
             for h in Ones(fit) {
                 if h < run.problem.table.terms {
                     found = Some(Found {

@@ -50,7 +50,7 @@ abbrev pub line : Found → ℕ → List ℕ
 line r k = r.instance.rule ∷ r.number ∷ r.instance.root.0 ∷ k ∷ []
 
 -- a step with one child reaches it
-pub step_goes : {bs : List ℕ} {tab : Table} {budget : ℕ} {b : Branch} {r : Found} {q : ℕ} {es : List ℕ} {c : Counts} {F T : List ℕ} {t : Asserted} {y : State} (s : Taking bs tab false b r q es) → Made bs tab b r q es 0 t → t.conflict ≡ false → Begun tab.terms budget (state c DONE F T) → y ≡ with_step budget (line r 1) (state c DONE F T) → Reached bs tab budget b (state c DONE F T) t.branch y
+pub step_goes : {bs : List ℕ} {tab : Table} {budget : ℕ} {b : Branch} {r : Found} {q : ℕ} {c : Counts} {F T : List ℕ} {t : Asserted} {y : State} (s : Taking bs tab false b r q) → Made bs tab b r q 0 t → t.conflict ≡ false → Begun tab.terms budget (state c DONE F T) → y ≡ with_step budget (line r 1) (state c DONE F T) → Reached bs tab budget b (state c DONE F T) t.branch y
 step_goes {bs} {tab} {budget} {b} {r} {c = c} {F} {T} {t} s m x g e = record {
   leads = subst (Leads bs tab budget b (state c DONE F T) t.branch) (sym e) (step_leads bs tab s.opened budget b s.sound.good c F T (line r 1) t.branch (going s m x) (child_less s m x));
   less = omega (arith, child_less s m x);

@@ -26,7 +26,7 @@ use Rattle.branch.specs.declared.Branch.{Branch}
 use Rattle.branch.specs.declared.Asserted.{Asserted}
 use Rattle.branch.specs.Held.{held, restrict, result_of, Rowed, Sound}
 use Rattle.branch.proofs.Laws.{answered, refusing}
-use Rattle.constraints.specs.Decoded.{decoded, Unpacked}
+use Rattle.constraints.specs.Decoded.{decoded, entries_in}
 use Rattle.places.specs.Places.{RuleOf, InSpan, span_of, propagation_span, entries_of, move_at, offers}
 use Rattle.places.specs.Alternatives.{slots_of, child_of}
 use Rattle.places.proofs.Picking.{picked_among}
@@ -39,24 +39,23 @@ use Rattle.step.specs.Acts.{performed, Rooted, Under, OnLowTerms, Placed, Somewh
 use Rattle.step.proofs.Placing.{placed}
 use Rattle.step.proofs.Performing.{performed_rowed}
 use Rattle.solver.specs.ComesTo.{constants, constraints_in, shown, remaining}
-use Rattle.constraints.proofs.Decoding.{constraint_in}
+use Rattle.constraints.proofs.Decoding.{constraint_in, entries_as}
 use Rattle.solver.proofs.Opening.{in_range, among, terms_few, place_there}
 use Rattle.solver.proofs.NextLaws.{Before, found_next}
 use Rattle.solver.proofs.Working.{fit}
 
--- what was found is the branch's first place, at position q, and its entries are es
-pub record Taking (bs : List ℕ) (tab : Table) (split : Bool) (b : Branch) (r : Found) (q : ℕ) (es : List ℕ) : Type 0 where
+-- what was found is the branch's first place, at position q
+pub record Taking (bs : List ℕ) (tab : Table) (split : Bool) (b : Branch) (r : Found) (q : ℕ) : Type 0 where
   pub opened : Opened bs tab
   pub sound : Sound (constants bs tab) b
   pub settled : Before tab.terms (constraints_in bs tab) (held b) split
   pub first_is : first_place_of split tab.terms (constraints_in bs tab) (held b) ≡ some (candidate_at (constraints_in bs tab) (held b) (spot r q))
   pub located : Located split tab.terms (constraints_in bs tab) (held b) r q
-  pub unpacked : Unpacked bs r.number es r.instance.constraint
 
 -- its child number k was asserted, with this answer
-pub record Made (bs : List ℕ) (tab : Table) (b : Branch) (r : Found) (q : ℕ) (es : List ℕ) (k : ℕ) (t : Asserted) : Type 0 where
-  pub there : k < slots_of (decoded (map term es) r.instance.constraint) r.instance.rule
-  pub asserts : child_of (constants bs tab) (held b) (decoded (map term es) r.instance.constraint) r.instance.rule q k ≡ result_of t
+pub record Made (bs : List ℕ) (tab : Table) (b : Branch) (r : Found) (q k : ℕ) (t : Asserted) : Type 0 where
+  pub there : k < slots_of (decoded r.instance.constraint) r.instance.rule
+  pub asserts : child_of (constants bs tab) (held b) (decoded r.instance.constraint) r.instance.rule q k ≡ result_of t
   pub rowed : Rowed (constants bs tab) t.branch
 
 some_map : (f : calculus.Branch → calculus.Branch) (d : calculus.Branch) (cs : List calculus.Branch) → Some (λ x. x ≡ d) cs → Some (λ x. x ≡ f d) (map f cs)
@@ -67,9 +66,9 @@ each_unit : (cs : List Candidate) → Each (λ _. Unit {0}) cs
 each_unit [] = tt
 each_unit (c ∷ cs) = (tt, each_unit cs)
 
-module _ {bs : List ℕ} {tab : Table} {split : Bool} {b : Branch} {r : Found} {q : ℕ} {es : List ℕ} (s : Taking bs tab split b r q es) where
+module _ {bs : List ℕ} {tab : Table} {split : Bool} {b : Branch} {r : Found} {q : ℕ} (s : Taking bs tab split b r q) where
   abbrev this : Constraint
-  this = decoded (map term es) r.instance.constraint
+  this = decoded r.instance.constraint
 
   abbrev kids : List calculus.Branch
   kids = picked (child_of (constants bs tab) (held b) this r.instance.rule q) (up_from 0 (slots_of this r.instance.rule))
@@ -79,8 +78,11 @@ module _ {bs : List ℕ} {tab : Table} {split : Bool} {b : Branch} {r : Found} {
 
   -- the place's constraint is the decoded one
   pub here_is : get_or (constraints_in bs tab) r.number no_constraint ≡ this
+  here_is = s.located.opened
+
+  constraint_is : constraint_of bs r.number ≡ this
   unfolding constraint_of
-  here_is = s.unpacked.is
+  constraint_is = s.located.opened
 
   pub ruled : RuleOf this r.instance.rule
   ruled = rule_of split this r.instance.rule (subst (λ (x : Constraint). InSpan (span_of split x) r.instance.rule) here_is s.located.within.of_rule)
@@ -88,22 +90,22 @@ module _ {bs : List ℕ} {tab : Table} {split : Bool} {b : Branch} {r : Found} {
   entry_there : r.instance.rule ≡ 19 → q < length (entries_of this)
   entry_there e = subst (λ (x : Constraint). q < length (entries_of x)) here_is (s.located.within.of_entry e)
 
-  entry_listed : r.instance.rule ≡ 19 → q < length es
-  entry_listed e = omega (arith, entry_there e, ap length s.unpacked.handled.entries_are, length-map es term)
+  entry_listed : r.instance.rule ≡ 19 → q < length (entries_in r.instance.constraint)
+  entry_listed e = omega (arith, entry_there e, ap length (entries_as r.instance.constraint), length-map (entries_in r.instance.constraint) term)
 
   low : r.instance.root.0 < most_terms
   low = omega (arith, s.located.low, terms_few bs tab s.opened)
 
   -- its terms, and the root concerned, are the problem's
   pub in_terms : ConstraintIn tab.terms most_sets this
-  in_terms = subst (ConstraintIn tab.terms most_sets) s.unpacked.is (constraint_in bs tab r.number s.opened (place_there bs tab s.opened r.number s.located.within.in_problem) tab.terms 8 (omega arith) (opened_sizes bs tab s.opened).1)
+  in_terms = subst (ConstraintIn tab.terms most_sets) constraint_is (constraint_in bs tab r.number s.opened (place_there bs tab s.opened r.number s.located.within.in_problem) tab.terms 8 (omega arith) (opened_sizes bs tab s.opened).1)
 
-  pub low_act : (a : Act) → OnLowTerms r.instance es a → Under tab.terms a
+  pub low_act : (a : Act) → OnLowTerms r.instance a → Under tab.terms a
   low_act a l = l tab.terms in_terms s.located.low
 
   -- it is a place of a step
-  pub is_placed : Placed b.parents es r.instance.constraint r.instance.rule q r.instance.root.0
-  is_placed = placed (held b) r.instance.rule q es r.instance.constraint r.instance.root.0 s.unpacked.handled ruled entry_listed low (subst (λ (x : Constraint). (move_at (held b) x r.instance.rule q).0 ≡ term r.instance.root.0) here_is s.located.concerns)
+  pub is_placed : Placed b.parents r.instance.constraint r.instance.rule q r.instance.root.0
+  is_placed = placed (held b) r.instance.rule q r.instance.constraint r.instance.root.0 s.located.handled ruled entry_listed low (subst (λ (x : Constraint). (move_at (held b) x r.instance.rule q).0 ≡ term r.instance.root.0) here_is s.located.concerns)
 
   -- the rule applies there
   pub applying : applies (calculus.known (held b)) (move_at (held b) this r.instance.rule q).1 ≡ true
@@ -120,7 +122,7 @@ module _ {bs : List ℕ} {tab : Table} {split : Bool} {b : Branch} {r : Found} {
 
   -- ---- child k
 
-  module _ {k : ℕ} {t : Asserted} (m : Made bs tab b r q es k t) where
+  module _ {k : ℕ} {t : Asserted} (m : Made bs tab b r q k t) where
     pub refused : t.conflict ≡ true → child_of (constants bs tab) (held b) this r.instance.rule q k ≡ none
     refused e = refusing (child_of (constants bs tab) (held b) this r.instance.rule q k) t m.asserts e
 
@@ -130,7 +132,7 @@ module _ {bs : List ℕ} {tab : Table} {split : Bool} {b : Branch} {r : Found} {
 
       pub child_sound : Sound (constants bs tab) t.branch
       child_sound = record {
-        good = child_fit most_terms most_sets (constants bs tab) (held b) this r.instance.rule q k (held t.branch) s.sound.good s.unpacked.handled.in_range ruled entry_there
+        good = child_fit most_terms most_sets (constants bs tab) (held b) this r.instance.rule q k (held t.branch) s.sound.good s.located.handled.in_range ruled entry_there
             (λ n. (subst (λ (x : Constraint). (q < most_terms) × ((move_at (held b) x r.instance.rule q).0 ≡ term q)) here_is (s.located.within.of_root n)).0) m.there given;
         rowed = m.rowed;
       }
@@ -144,7 +146,7 @@ module _ {bs : List ℕ} {tab : Table} {split : Bool} {b : Branch} {r : Found} {
           (some_map (restrict tab.terms) (held t.branch) kids (picked_among (child_of (constants bs tab) (held b) this r.instance.rule q) k (held t.branch) given 0 (slots_of this r.instance.rule) (omega arith) (omega (arith, m.there))))).1
 
   -- an act on roots that asserts child k, performed, makes it
-  pub acted : {k : ℕ} {t : Asserted} (a : Act) → k < slots_of this r.instance.rule → Rooted b.parents a → child_of (constants bs tab) (held b) this r.instance.rule q k ≡ result_of (performed b a) → t ≡ performed b a → Made bs tab b r q es k t
+  pub acted : {k : ℕ} {t : Asserted} (a : Act) → k < slots_of this r.instance.rule → Rooted b.parents a → child_of (constants bs tab) (held b) this r.instance.rule q k ≡ result_of (performed b a) → t ≡ performed b a → Made bs tab b r q k t
   acted a lt o c e = record {
     there = lt;
     asserts = c ∙ ap result_of (sym e);
@@ -157,15 +159,13 @@ by_arm b e f g h = rw (g, h) (f ∙ ap (performed b) (sym e))
 
 -- ---- what a search answers
 
-pub taking : {bs : List ℕ} {tab : Table} {split : Bool} {b : Branch} {r : Found} → Opened bs tab → Sound (constants bs tab) b → Before tab.terms (constraints_in bs tab) (held b) split → (f : IsFirst split tab.terms (constraints_in bs tab) (held b) r) → Taking bs tab split b r f.position f.located.entries
-unfolding constraint_of
+pub taking : {bs : List ℕ} {tab : Table} {split : Bool} {b : Branch} {r : Found} → Opened bs tab → Sound (constants bs tab) b → Before tab.terms (constraints_in bs tab) (held b) split → (f : IsFirst split tab.terms (constraints_in bs tab) (held b) r) → Taking bs tab split b r f.position
 taking o sound e f = record {
   opened = o;
   sound = sound;
   settled = e;
   first_is = f.first_is;
   located = f.located;
-  unpacked = record { is = f.located.opened; handled = f.located.handled };
 }
 
 -- ---- a propagation step has one child, or none
@@ -184,21 +184,21 @@ span_end (negation k A B C w) = omega arith
 span_end (exactly A es) = omega arith
 span_end (interval A i j es) = omega arith
 
-module _ {bs : List ℕ} {tab : Table} {b : Branch} {r : Found} {q : ℕ} {es : List ℕ} (s : Taking bs tab false b r q es) where
-  pub single : slots_of (decoded (map term es) r.instance.constraint) r.instance.rule ≡ 1
-  single = propagation_slots (decoded (map term es) r.instance.constraint) r.instance.rule (subst (λ (x : Constraint). InSpan (propagation_span x) r.instance.rule) (here_is s) s.located.within.of_rule)
+module _ {bs : List ℕ} {tab : Table} {b : Branch} {r : Found} {q : ℕ} (s : Taking bs tab false b r q) where
+  pub single : slots_of (decoded r.instance.constraint) r.instance.rule ≡ 1
+  single = propagation_slots (decoded r.instance.constraint) r.instance.rule (subst (λ (x : Constraint). InSpan (propagation_span x) r.instance.rule) (here_is s) s.located.within.of_rule)
 
   pub not_20 : ¬ (r.instance.rule ≡ 20)
   not_20 e = omega (arith, s.located.within.of_rule.1, span_end (get_or (constraints_in bs tab) r.number no_constraint))
 
   -- child 0 is there
-  pub first_there : 0 < slots_of (decoded (map term es) r.instance.constraint) r.instance.rule
+  pub first_there : 0 < slots_of (decoded r.instance.constraint) r.instance.rule
   first_there = omega (arith, single)
 
   pub somewhere : Somewhere b.parents r.instance.constraint r.instance.rule r.instance.root.0 0
-  somewhere = (es, q, is_placed s, first_there)
+  somewhere = (q, is_placed s, first_there)
 
-  module _ {t : Asserted} (m : Made bs tab b r q es 0 t) where
+  module _ {t : Asserted} (m : Made bs tab b r q 0 t) where
     pub closing : t.conflict ≡ true → next tab.terms (constants bs tab) (constraints_in bs tab) (shown bs tab b) ≡ step (r.instance.rule ∷ r.number ∷ r.instance.root.0 ∷ 0 ∷ []) []
     closing e = stepped s ∙ rw (single, refused s m e, picked) refl
 
@@ -211,5 +211,5 @@ module _ {bs : List ℕ} {tab : Table} {b : Branch} {r : Found} {q : ℕ} {es : 
     told false e = going e
 
   -- what it asserts is known by its act
-  pub inferred : {a : Act} {t : Asserted} → Acts b.parents (decoded (map term es) r.instance.constraint) r.instance.rule q 0 a → t ≡ performed b a → Made bs tab b r q es 0 t
+  pub inferred : {a : Act} {t : Asserted} → Acts b.parents (decoded r.instance.constraint) r.instance.rule q 0 a → t ≡ performed b a → Made bs tab b r q 0 t
   inferred {a} d e = acted s a first_there d.rooted (d.asserts (constants bs tab) b refl s.sound.good s.sound.rowed.fixed) e

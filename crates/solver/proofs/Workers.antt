@@ -9,23 +9,21 @@ use native.Mathlib.Numerals.{add-one}
 use lib.ListN.{length}
 use lib.Count.{ones}
 use Rattle.calculus.specs.Lists.{up_from, picked}
-use Rattle.calculus.specs.Terms.{Term, term}
+use Rattle.calculus.specs.Terms.{Term}
 use Rattle.calculus.specs.Relations.{equal, union, disjoint, subset, intersection}
 use Rattle.calculus.specs.Meaning.{Constraint, member, nonmember, same, different, relation, negation, exactly, interval}
 use Rattle.calculus.specs.Branch as calculus
 use Rattle.calculus.specs.Search.{step, next}
 use Rattle.calculus.specs.Forms.{record_of}
-use Rattle.calculus.proofs.Sequences.{index_term}
 use Rattle.problem.specs.declared.Table.{Table}
-use Rattle.problem.specs.Table.{Opened, constraint_of}
+use Rattle.problem.specs.Table.{Opened}
 use Rattle.branch.specs.declared.Branch.{Branch}
 use Rattle.branch.specs.declared.Asserted.{Asserted}
 use Rattle.branch.specs.Held.{held, restrict, result_of, Sound}
 use Rattle.branch.proofs.Laws.{refusing}
 use Rattle.branch.proofs.Roots.{root_is}
-use Rattle.constraints.specs.declared.Constraint.{Constraint as Coded}
-use Rattle.constraints.specs.Decoded.{decoded, Handled, Unpacked}
-use Rattle.places.specs.Places.{InSpan, split_span, entries_of}
+use Rattle.constraints.specs.Decoded.{decoded, entries_in}
+use Rattle.places.specs.Places.{InSpan, split_span}
 use Rattle.places.specs.Alternatives.{slots_of, child_of}
 use Rattle.places.proofs.Slots.{children_slots}
 use Rattle.search.specs.declared.Found.{Found}
@@ -33,7 +31,7 @@ use Rattle.search.specs.First.{first_place_of}
 use Rattle.step.specs.declared.Turn.{Turn}
 use Rattle.step.specs.declared.Act.{Act}
 use Rattle.step.specs.Acts.{performed, Rooted}
-use Rattle.step.specs.Left.{act_in, Left, Free, Keepable, Turns}
+use Rattle.step.specs.Left.{act_in, LeftOf, Free, Keepable, TurnsFor}
 use Rattle.step.proofs.Turning.{left_count, taken_open, left_closed}
 use Rattle.step.proofs.Choosing.{applies_free}
 use Rattle.records.specs.declared.Counts.{Counts}
@@ -74,46 +72,28 @@ split_not_19 (negation k A B C w) j s e = omega (arith, s.1)
 split_not_19 (exactly A es) j s e = omega (arith, s.0)
 split_not_19 (interval A i k es) j s e = omega (arith, s.0)
 
--- the entries of a constraint that is decoded are told by it
-unpacked_same : {bs : List ℕ} {i : ℕ} {es fs : List ℕ} {l : Coded} → Unpacked bs i es l → Unpacked bs i fs l → es ≡ fs
-unpacked_same {es = es} {fs = fs} u v =
-    let w : map term es ≡ map term fs = sym u.handled.entries_are ∙ ap entries_of (sym u.is ∙ v.is) ∙ v.handled.entries_are in
-    sym (index_term es) ∙ ap (map (λ (t : Term). t.index)) w ∙ index_term fs
-
--- the entries that a constraint is decoded with are its own
-own_entries : {es : List ℕ} {l : Coded} → Handled es l → decoded (map term es) l ≡ decoded (entries_of (decoded (map term es) l)) l
-own_entries {l = l} h = ap (λ (ts : List Term). decoded ts l) (sym h.entries_are)
-
-module _ {bs : List ℕ} {tab : Table} {b : Branch} {r : Found} {q : ℕ} {es : List ℕ} (s : Taking bs tab true b r q es) where
+module _ {bs : List ℕ} {tab : Table} {b : Branch} {r : Found} {q : ℕ} (s : Taking bs tab true b r q) where
   at_root : q ≡ r.instance.root.0
   at_root = ap (λ (t : Term). t.index) (sym (s.located.within.of_root (split_not_19 (placed bs tab r) r.instance.rule s.located.within.of_rule)).1 ∙ s.located.concerns)
 
-  pub rooted : Taking bs tab true b r r.instance.root.0 es
-  rooted = subst (λ (p : ℕ). Taking bs tab true b r p es) at_root s
+  pub rooted : Taking bs tab true b r r.instance.root.0
+  rooted = subst (Taking bs tab true b r) at_root s
 
-  -- the constraint as `list_at` wants it
-  pub decodes : constraint_of bs r.number ≡ decoded (entries_of (constraint_of bs r.number)) r.instance.constraint
-  decodes = rw s.unpacked.is (own_entries s.unpacked.handled)
-
--- with other entries of the same constraint
-pub relisted : {bs : List ℕ} {tab : Table} {b : Branch} {r : Found} {q : ℕ} {es fs : List ℕ} → Taking bs tab true b r q es → Unpacked bs r.number fs r.instance.constraint → Taking bs tab true b r q fs
-relisted {bs} {tab} {b} {r} {q} s u = subst (λ (x : List ℕ). Taking bs tab true b r q x) (unpacked_same s.unpacked u) s
-
-module _ {bs : List ℕ} {tab : Table} {b : Branch} {r : Found} {es : List ℕ} (s : Taking bs tab true b r r.instance.root.0 es) where
+module _ {bs : List ℕ} {tab : Table} {b : Branch} {r : Found} (s : Taking bs tab true b r r.instance.root.0) where
   abbrev this : Constraint
-  this = decoded (map term es) r.instance.constraint
+  this = decoded r.instance.constraint
 
   -- where rule 20 applies the root is that of no entry
-  pub free : r.instance.rule ≡ 20 → Free b.parents es r.instance.root.0
-  free e = applies_free (held b) r.instance.root.0 (sym (root_is (held b) r.instance.root.0) ∙ s.located.rooted) es r.instance.constraint r.instance.rule (ruled s) e (applying s)
+  pub free : r.instance.rule ≡ 20 → Free b.parents (entries_in r.instance.constraint) r.instance.root.0
+  free e = applies_free (held b) r.instance.root.0 (sym (root_is (held b) r.instance.root.0) ∙ s.located.rooted) r.instance.constraint r.instance.rule (ruled s) e (applying s)
 
-  pub keepable : Keepable b es r.instance
+  pub keepable : Keepable b r.instance
   keepable = record { falls = s.sound.good.falls; placed = is_placed s; free = free }
 
-  module _ (word : ℕ) (small : word < 2 ^ 64) (left : Left (constants bs tab) (held b) this es r.instance.rule r.instance.root.0 0 word) where
+  module _ (word : ℕ) (small : word < 2 ^ 64) (left : LeftOf (constants bs tab) (held b) r.instance 0 word) where
     -- the bits are as many as the children
     left_number : ones word ≡ length (picked (child_of (constants bs tab) (held b) this r.instance.rule r.instance.root.0) (up_from 0 (slots_of this r.instance.rule)))
-    left_number = left_count (constants bs tab) (held b) s.sound.good.falls es r.instance.constraint s.unpacked.handled r.instance.rule r.instance.root.0 (ruled s) word small left
+    left_number = left_count (constants bs tab) (held b) r.instance s.sound.good.falls s.located.handled (ruled s) word small left
         ∙ ap length (children_slots (constants bs tab) (held b) this r.instance.rule r.instance.root.0 (ruled s))
 
     -- so this is what is done next
@@ -128,16 +108,12 @@ module _ {bs : List ℕ} {tab : Table} {b : Branch} {r : Found} {es : List ℕ} 
       settled = s.settled;
       first_is = s.first_is;
       located = s.located;
-      left = λ fs u. subst (λ (x : List ℕ). Left (constants bs tab) (held b) (decoded (map term x) r.instance.constraint) x r.instance.rule r.instance.root.0 0 word) (unpacked_same s.unpacked u) left;
+      left = left;
     }
 
 -- and back
-pub split_taking : {bs : List ℕ} {tab : Table} {b : Branch} {s : FoundSplit} → Opened bs tab → Splits bs tab b s → {es : List ℕ} → Unpacked bs s.found.number es s.found.instance.constraint → Taking bs tab true b s.found s.found.instance.root.0 es
-split_taking o w u = record { opened = o; sound = w.ready.sound; settled = w.settled; first_is = w.first_is; located = w.located; unpacked = u }
-
-pub split_decodes : {bs : List ℕ} {tab : Table} {b : Branch} {s : FoundSplit} → Splits bs tab b s → constraint_of bs s.found.number ≡ decoded (entries_of (constraint_of bs s.found.number)) s.found.instance.constraint
-unfolding constraint_of
-split_decodes {s = s} w = rw w.located.opened (own_entries w.located.handled)
+pub split_taking : {bs : List ℕ} {tab : Table} {b : Branch} {s : FoundSplit} → Opened bs tab → Splits bs tab b s → Taking bs tab true b s.found s.found.instance.root.0
+split_taking o w = record { opened = o; sound = w.ready.sound; settled = w.settled; first_is = w.first_is; located = w.located }
 
 -- ---- a branch that propagation has settled
 
@@ -147,46 +123,46 @@ module _ {bs : List ℕ} {tab : Table} {budget : ℕ} {b : Branch} {s : State} {
       let n = none_next tab.terms tab.sets (constants bs tab) (constraints_in bs tab) (in_range bs tab o) (among bs tab o) (held at) sound.good.falls p q in
       reaches w y (subst (ComesTo bs tab budget at (state d DONE G U)) (sym x) (solved_outcome bs tab o budget at sound.good d G U n))
 
-  module _ {split : Bool} {f : Found} {q : ℕ} {es : List ℕ} (k : Taking bs tab split at f q es) where
+  module _ {split : Bool} {f : Found} {q : ℕ} (k : Taking bs tab split at f q) where
     -- a step that is not taken stops the run
     pub works_stopped : {r : List ℕ} {cs : List calculus.Branch} → next tab.terms (constants bs tab) (constraints_in bs tab) (shown bs tab at) ≡ step r cs → (e : Counts) (v : Stop) (H V : List ℕ) → state e (stopped v) H V ≡ with_step budget r (state d DONE G U) → ComesTo bs tab budget b s (state e (stopped v) H V)
     works_stopped n e v H V x = reaches w _ (step_stops bs tab k.opened budget at k.sound.good d G U _ _ n e v H V x)
 
   -- a step with no child closes the branch
-  pub works_closed : {f : Found} {q : ℕ} {es : List ℕ} (k : Taking bs tab false at f q es) {t : Asserted} → Made bs tab at f q es 0 t → t.conflict ≡ true → (y : State) → y ≡ with_step budget (line f 0) (state d DONE G U) → ComesTo bs tab budget b s y
+  pub works_closed : {f : Found} {q : ℕ} (k : Taking bs tab false at f q) {t : Asserted} → Made bs tab at f q 0 t → t.conflict ≡ true → (y : State) → y ≡ with_step budget (line f 0) (state d DONE G U) → ComesTo bs tab budget b s y
   works_closed {f} k m x y e = reaches w y (subst (ComesTo bs tab budget at (state d DONE G U)) (sym e) (closed_outcome bs tab k.opened budget at k.sound.good d G U (line f 0) (closing k m x)))
 
-  module _ {f : Found} {es : List ℕ} (k : Taking bs tab true at f f.instance.root.0 es) where
+  module _ {f : Found} (k : Taking bs tab true at f f.instance.root.0) where
     pub works_split : (n : ℕ) → next tab.terms (constants bs tab) (constraints_in bs tab) (shown bs tab at) ≡ step (line f n) (children_from bs tab at (placed bs tab f) f.instance.rule f.instance.root.0 0) → (y : State) → y ≡ with_step budget (line f n) (state d DONE G U) → (t : State) → SplitComesTo bs tab budget at f y t → ComesTo bs tab budget b s t
     works_split n e y q t x = reaches w t (split_outcome bs tab k.opened budget at k.sound.good d G U (placed bs tab f) f.instance.rule f.instance.root.0 (line f n) e t (subst (λ (z : State). SplitComesTo bs tab budget at f z t) q x))
 
 -- ---- the children of a split
 
 -- what the loop keeps at child k: from state s to where it is now, with the children that are left
-pub record Worked (bs : List ℕ) (tab : Table) (budget : ℕ) (b : Branch) (r : Found) (es : List ℕ) (s : State) (k word : ℕ) (t : State) : Type 0 where
-  pub leads : (u : State) → ChildrenComeTo bs tab budget b (decoded (map term es) r.instance.constraint) r.instance.rule r.instance.root.0 k t u → SplitComesTo bs tab budget b r s u
+pub record Worked (bs : List ℕ) (tab : Table) (budget : ℕ) (b : Branch) (r : Found) (s : State) (k word : ℕ) (t : State) : Type 0 where
+  pub leads : (u : State) → ChildrenComeTo bs tab budget b (decoded r.instance.constraint) r.instance.rule r.instance.root.0 k t u → SplitComesTo bs tab budget b r s u
   pub begun : Begun tab.terms budget t
-  pub left : Left (constants bs tab) (held b) (decoded (map term es) r.instance.constraint) es r.instance.rule r.instance.root.0 k word
+  pub left : LeftOf (constants bs tab) (held b) r.instance k word
 
-module _ {bs : List ℕ} {tab : Table} {b : Branch} {r : Found} {es : List ℕ} {budget : ℕ} {s : State} (x : Taking bs tab true b r r.instance.root.0 es) where
-  pub worked_begin : {word : ℕ} → Left (constants bs tab) (held b) (decoded (map term es) r.instance.constraint) es r.instance.rule r.instance.root.0 0 word → Begun tab.terms budget s → Worked bs tab budget b r es s 0 word s
+module _ {bs : List ℕ} {tab : Table} {b : Branch} {r : Found} {budget : ℕ} {s : State} (x : Taking bs tab true b r r.instance.root.0) where
+  pub worked_begin : {word : ℕ} → LeftOf (constants bs tab) (held b) r.instance 0 word → Begun tab.terms budget s → Worked bs tab budget b r s 0 word s
   worked_begin L g = record { leads = λ u q. subst (λ (l : Constraint). ChildrenComeTo bs tab budget b l r.instance.rule r.instance.root.0 0 s u) (sym (here_is x)) q; begun = g; left = L }
 
-  module _ {k word : ℕ} {t : State} (v : Worked bs tab budget b r es s k word t) where
-    pub worked_done : slots_of (decoded (map term es) r.instance.constraint) r.instance.rule ≤ k → SplitComesTo bs tab budget b r s t
-    worked_done h = v.leads t (children_done bs tab budget b (decoded (map term es) r.instance.constraint) r.instance.rule r.instance.root.0 k t h)
+  module _ {k word : ℕ} {t : State} (v : Worked bs tab budget b r s k word t) where
+    pub worked_done : slots_of (decoded r.instance.constraint) r.instance.rule ≤ k → SplitComesTo bs tab budget b r s t
+    worked_done h = v.leads t (children_done bs tab budget b (decoded r.instance.constraint) r.instance.rule r.instance.root.0 k t h)
 
-    module _ (lt : k < slots_of (decoded (map term es) r.instance.constraint) r.instance.rule) {n : Turn} (u : Turns b.parents es (decoded (map term es) r.instance.constraint) r.instance.rule r.instance.root.0 k word n) where
-      asserts : child_of (constants bs tab) (held b) (decoded (map term es) r.instance.constraint) r.instance.rule r.instance.root.0 k ≡ result_of (performed b (act_in n.act))
+    module _ (lt : k < slots_of (decoded r.instance.constraint) r.instance.rule) {n : Turn} (u : TurnsFor b r.instance k word n) where
+      asserts : child_of (constants bs tab) (held b) (decoded r.instance.constraint) r.instance.rule r.instance.root.0 k ≡ result_of (performed b (act_in n.act))
       asserts = u.asserts (constants bs tab) b refl x.sound.good x.sound.rowed.fixed v.left
 
-      after_turn : Left (constants bs tab) (held b) (decoded (map term es) r.instance.constraint) es r.instance.rule r.instance.root.0 (k + 1) n.left
+      after_turn : LeftOf (constants bs tab) (held b) r.instance (k + 1) n.left
       after_turn = u.leaves (constants bs tab) (held b) refl v.left
 
-      pub worked_skip : n.act ≡ None → Worked bs tab budget b r es s (k + 1) n.left t
+      pub worked_skip : n.act ≡ None → Worked bs tab budget b r s (k + 1) n.left t
       worked_skip e = record {
-        leads = λ y z. v.leads y (children_skip bs tab budget b (decoded (map term es) r.instance.constraint) r.instance.rule r.instance.root.0 k t lt
-            (refusing (child_of (constants bs tab) (held b) (decoded (map term es) r.instance.constraint) r.instance.rule r.instance.root.0 k) (performed b (act_in n.act)) asserts (left_closed u (constants bs tab) b refl x.sound.good x.sound.rowed.fixed v.left (ap is_some e))) y (rw (add-one k) at z));
+        leads = λ y z. v.leads y (children_skip bs tab budget b (decoded r.instance.constraint) r.instance.rule r.instance.root.0 k t lt
+            (refusing (child_of (constants bs tab) (held b) (decoded r.instance.constraint) r.instance.rule r.instance.root.0 k) (performed b (act_in n.act)) asserts (left_closed b r.instance u (constants bs tab) x.sound v.left (ap is_some e))) y (rw (add-one k) at z));
         begun = v.begun;
         left = after_turn;
       }
@@ -195,18 +171,18 @@ module _ {bs : List ℕ} {tab : Table} {b : Branch} {r : Found} {es : List ℕ} 
         pub act_rooted : Rooted b.parents a
         act_rooted = rw e at u.rooted
 
-        pub made : Made bs tab b r r.instance.root.0 es k d
+        pub made : Made bs tab b r r.instance.root.0 k d
         made = acted x a lt act_rooted (rw e at asserts) p
 
         pub opens : d.conflict ≡ false
-        opens = ap (λ (z : Asserted). z.conflict) p ∙ (rw e at (taken_open u (constants bs tab) b refl x.sound.good x.sound.rowed.fixed v.left (ap is_some e)))
+        opens = ap (λ (z : Asserted). z.conflict) p ∙ (rw e at (taken_open b r.instance u (constants bs tab) x.sound v.left (ap is_some e)))
 
-        pub worked_next : (y : State) → ComesTo bs tab budget d.branch t y → Worked bs tab budget b r es s (k + 1) n.left y
+        pub worked_next : (y : State) → ComesTo bs tab budget d.branch t y → Worked bs tab budget b r s (k + 1) n.left y
         worked_next y out = record {
-          leads = λ z w. v.leads z (children_next bs tab budget b (decoded (map term es) r.instance.constraint) r.instance.rule r.instance.root.0 k t d.branch lt (given x made opens) (child_less x made opens) y out z (rw (add-one k) at w));
+          leads = λ z w. v.leads z (children_next bs tab budget b (decoded r.instance.constraint) r.instance.rule r.instance.root.0 k t d.branch lt (given x made opens) (child_less x made opens) y out z (rw (add-one k) at w));
           begun = record { fine = outcome_fine bs tab budget d.branch t y v.begun.fine out; no_terms = λ z. absurd (omega (arith, x.located.low)) };
           left = after_turn;
         }
 
         pub worked_stop : (c : Counts) (w : Stop) (G U : List ℕ) → ComesTo bs tab budget d.branch t (state c (stopped w) G U) → SplitComesTo bs tab budget b r s (state c (stopped w) G U)
-        worked_stop c w G U out = v.leads _ (children_stop bs tab budget b (decoded (map term es) r.instance.constraint) r.instance.rule r.instance.root.0 k t d.branch lt (given x made opens) (child_less x made opens) c w G U out)
+        worked_stop c w G U out = v.leads _ (children_stop bs tab budget b (decoded r.instance.constraint) r.instance.rule r.instance.root.0 k t d.branch lt (given x made opens) (child_less x made opens) c w G U out)

@@ -2,7 +2,7 @@
 use Rattle.std.specs.Prelude.{◌≡◌, Bool, false, true, ◌&&◌, List, map, ℕ, suc, ◌-◌, ◌≤◌, ◌<◌, length, get_or}
 use Rattle.std.proofs.Math.Option.{none, some}
 use Rattle.calculus.specs.Lists.{up_from, any, gather, picked, bit}
-use Rattle.calculus.specs.Terms.{Term, term, terms_from}
+use Rattle.calculus.specs.Terms.{Term, terms_from}
 use Rattle.calculus.specs.Meaning.{Constraint}
 use Rattle.calculus.specs.Branch as calculus
 use Rattle.calculus.specs.Problem.{Problem}
@@ -14,13 +14,12 @@ use Rattle.problem.specs.Table.{constraints_of, no_constraint}
 use Rattle.branch.specs.declared.Branch.{Branch}
 use Rattle.branch.specs.Held.{held, restrict, Sound}
 use Rattle.branch.specs.Rows.{literals, literal_count}
-use Rattle.constraints.specs.Decoded.{decoded, Unpacked}
 use Rattle.places.specs.Alternatives.{slots_of, child_of}
 use Rattle.search.specs.declared.Found.{Found}
 use Rattle.search.specs.First.{first_place_of, candidate_at, spot, Located}
 use Rattle.step.specs.declared.Act.{Act}
 use Rattle.step.specs.declared.Act.TheVariants.{Note, Merge, Close}
-use Rattle.step.specs.Left.{Left}
+use Rattle.step.specs.Left.{LeftOf}
 use Rattle.quiet.specs.Quiet.{Quiet, pair_mark, mark_word}
 use Rattle.records.specs.State.{State, play, state_left, Fine}
 use Rattle.solver.specs.declared.FoundSplit.{FoundSplit}
@@ -97,7 +96,7 @@ module _ (bs : List ℕ) (tab : Table) where
     pub settled : Settled b
     pub first_is : first_place_of true tab.terms constraints_in (held b) ≡ some (candidate_at constraints_in (held b) (spot s.found s.found.instance.root.0))
     pub located : Located true tab.terms constraints_in (held b) s.found s.found.instance.root.0
-    pub left : (es : List ℕ) → Unpacked bs s.found.number es s.found.instance.constraint → Left constants (held b) (decoded (map term es) s.found.instance.constraint) es s.found.instance.rule s.found.instance.root.0 0 s.left
+    pub left : LeftOf constants (held b) s.found.instance 0 s.left
 
 -- the run is within its bounds; without terms there is one form at most
 pub record Begun (n budget : ℕ) (s : State) : Type 0 where

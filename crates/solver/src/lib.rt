@@ -9,7 +9,6 @@ ghost use Rattle.solver.specs.ComesTo.{Wakes, ComesTo, SplitComesTo, Begun, Read
 
 use bits::low_bits;
 use branch::Branch;
-use constraints::entries_of;
 use marks::{PAIR_WORD, Prepared, prepare};
 use problem::Problem;
 use records::{Counts, Output, Stop};
@@ -32,8 +31,8 @@ pub struct Awake {
 
 // A split that a search found, with the children that are left, as bits.
 #[derive(Clone, Copy)]
-pub struct FoundSplit {
-    pub found: Found,
+pub struct FoundSplit<'a> {
+    pub found: Found<'a>,
     pub left: u64,
 }
 
@@ -74,7 +73,7 @@ fn work(run: &Run, next: &Branch, awake: Awake, out: &mut Output) -> Result<(), 
             among: wake,
         },
     ) {
-        let place = found.instance;
+        let place = &found.instance;
         let act = act_of(&at, place, 0);
         // Written out, not by `perform`: so a branch is copied twice, and not three times.
         let mut conflict = true;
@@ -115,9 +114,8 @@ fn work(run: &Run, next: &Branch, awake: Awake, out: &mut Output) -> Result<(), 
     ) else {
         return out.list_form(&at, prepared.problem.table.terms);
     };
-    let place = found.instance;
-    let entries = entries_of(&prepared.problem, found.number as usize, place.constraint);
-    let left = kept(&at, entries, place);
+    let place = &found.instance;
+    let left = kept(&at, place);
     out.write_step(
         run.budget,
         place.rule,
@@ -125,30 +123,27 @@ fn work(run: &Run, next: &Branch, awake: Awake, out: &mut Output) -> Result<(), 
         place.root.0,
         child_count(left),
     )?;
-    children(run, &at, FoundSplit { found, left }, out)
+    children(run, &at, &FoundSplit { found, left }, out)
 }
 
 // Works the children of a split in order, until one stops the run.
 #[cycle(children_work)]
-fn children(run: &Run, b: &Branch, split: FoundSplit, out: &mut Output) -> Result<(), Stop>
-    requires { Splits run.now.prepared.problem.bytes.now run.now.prepared.problem.table b.now split × Begun run.now.prepared.problem.table.terms run.now.budget (written out.old DONE) }
-    ensures comes_to { SplitComesTo run.now.prepared.problem.bytes.now run.now.prepared.problem.table run.now.budget b.now split.found (written out.old DONE) (written out.new (end_of result)) }
+fn children(run: &Run, b: &Branch, split: &FoundSplit, out: &mut Output) -> Result<(), Stop>
+    requires { Splits run.now.prepared.problem.bytes.now run.now.prepared.problem.table b.now split.now × Begun run.now.prepared.problem.table.terms run.now.budget (written out.old DONE) }
+    ensures comes_to { SplitComesTo run.now.prepared.problem.bytes.now run.now.prepared.problem.table run.now.budget b.now split.now.found (written out.old DONE) (written out.new (end_of result)) }
     ensures same_buffers { SameBuffers out.old out.new }
 {
-    let prepared = &run.prepared;
-    let found = split.found;
-    let place = found.instance;
-    let entries = entries_of(&prepared.problem, found.number as usize, place.constraint);
+    let place = &split.found.instance;
     let mut left = split.left;
-    for k in 0..slots(entries, place) {
-        let turn = child_at(b, entries, place, k, left);
+    for k in 0..slots(place) {
+        let turn = child_at(b, place, k, left);
         left = turn.left;
         if let Some(act) = turn.act {
             let next = perform(*b, act);
-            let more = wakes(prepared, act);
+            let more = wakes(&run.prepared, act);
             let awake = Awake {
                 wake: more,
-                ripe: found.left | more,
+                ripe: split.found.left | more,
             };
             work(run, &next.branch, awake, out)?;
         }

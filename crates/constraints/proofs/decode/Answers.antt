@@ -1,7 +1,7 @@
 -- Each arm is the constraint of its kind over the bytes that follow the kind byte.
 use Rattle.std.proofs.Common.{arith, refl}
 use mathlib.Core.Logic.{inl, inr}
-use Rattle.constraints.proofs.Decoding.{stands_there, kind_known, operands, third_operand, reads_as}
+use Rattle.constraints.proofs.Decoding.{stands_there, kind_known, operands, third_operand, kind_is, decodes, decodes_list, decodes_end, decodes_interval}
 use Rattle.constraints.proofs.decode.Goals as goal
 
 pub offset_bounds-problem-i : goal.offset_bounds-problem-i
@@ -31,38 +31,44 @@ bounds-line-3-in-Intersection c = third_operand _ _ _ c.args.problem.now.opened 
 pub bounds-line-3-in-Interval : goal.bounds-line-3-in-Interval
 bounds-line-3-in-Interval c = third_operand _ _ _ c.args.problem.now.opened c.requires _ c.from-line.ensures c.in-Ok.ensures c.in-Interval.is (inr (inr refl))
 
+pub entries-requires : goal.entries-requires
+entries-requires c = (c.requires, kind_is _ _ _ c.args.problem.now.opened c.requires _ c.from-line.ensures c.in-Ok.ensures c.in-Exactly.is)
+
+pub interval-entries-requires : goal.interval-entries-requires
+interval-entries-requires c = decodes_end _ _ _ c.args.problem.now.opened c.requires _ c.from-line.ensures c.in-Ok.ensures c.in-Interval.is
+
 pub returns-in-Member : goal.returns-in-Member
-returns-in-Member c = reads_as _ _ _ c.args.problem.now.opened c.requires _ c.from-line.ensures c.in-Ok.ensures c.in-Member.is
+returns-in-Member c = decodes _ _ _ c.args.problem.now.opened c.requires _ c.from-line.ensures c.in-Ok.ensures c.in-Member.is refl (omega arith)
 
 pub returns-in-Nonmember : goal.returns-in-Nonmember
-returns-in-Nonmember c = reads_as _ _ _ c.args.problem.now.opened c.requires _ c.from-line.ensures c.in-Ok.ensures c.in-Nonmember.is
+returns-in-Nonmember c = decodes _ _ _ c.args.problem.now.opened c.requires _ c.from-line.ensures c.in-Ok.ensures c.in-Nonmember.is refl (omega arith)
 
 pub returns-in-Same : goal.returns-in-Same
-returns-in-Same c = reads_as _ _ _ c.args.problem.now.opened c.requires _ c.from-line.ensures c.in-Ok.ensures c.in-Same.is
+returns-in-Same c = decodes _ _ _ c.args.problem.now.opened c.requires _ c.from-line.ensures c.in-Ok.ensures c.in-Same.is refl (omega arith)
 
 pub returns-in-Different : goal.returns-in-Different
-returns-in-Different c = reads_as _ _ _ c.args.problem.now.opened c.requires _ c.from-line.ensures c.in-Ok.ensures c.in-Different.is
+returns-in-Different c = decodes _ _ _ c.args.problem.now.opened c.requires _ c.from-line.ensures c.in-Ok.ensures c.in-Different.is refl (omega arith)
 
 pub returns-in-Equal : goal.returns-in-Equal
-returns-in-Equal c = reads_as _ _ _ c.args.problem.now.opened c.requires _ c.from-line.ensures c.in-Ok.ensures c.in-Equal.is
+returns-in-Equal c = decodes _ _ _ c.args.problem.now.opened c.requires _ c.from-line.ensures c.in-Ok.ensures c.in-Equal.is refl (omega arith)
 
 pub returns-in-Unequal : goal.returns-in-Unequal
-returns-in-Unequal c = reads_as _ _ _ c.args.problem.now.opened c.requires _ c.from-line.ensures c.in-Ok.ensures c.in-Unequal.is
+returns-in-Unequal c = decodes _ _ _ c.args.problem.now.opened c.requires _ c.from-line.ensures c.in-Ok.ensures c.in-Unequal.is refl (omega arith)
 
 pub returns-in-Union : goal.returns-in-Union
-returns-in-Union c = reads_as _ _ _ c.args.problem.now.opened c.requires _ c.from-line.ensures c.in-Ok.ensures c.in-Union.is
+returns-in-Union c = decodes _ _ _ c.args.problem.now.opened c.requires _ c.from-line.ensures c.in-Ok.ensures c.in-Union.is refl (omega arith)
 
 pub returns-in-Disjoint : goal.returns-in-Disjoint
-returns-in-Disjoint c = reads_as _ _ _ c.args.problem.now.opened c.requires _ c.from-line.ensures c.in-Ok.ensures c.in-Disjoint.is
+returns-in-Disjoint c = decodes _ _ _ c.args.problem.now.opened c.requires _ c.from-line.ensures c.in-Ok.ensures c.in-Disjoint.is refl (omega arith)
 
 pub returns-in-Subset : goal.returns-in-Subset
-returns-in-Subset c = reads_as _ _ _ c.args.problem.now.opened c.requires _ c.from-line.ensures c.in-Ok.ensures c.in-Subset.is
+returns-in-Subset c = decodes _ _ _ c.args.problem.now.opened c.requires _ c.from-line.ensures c.in-Ok.ensures c.in-Subset.is refl (omega arith)
 
 pub returns-in-Intersection : goal.returns-in-Intersection
-returns-in-Intersection c = reads_as _ _ _ c.args.problem.now.opened c.requires _ c.from-line.ensures c.in-Ok.ensures c.in-Intersection.is
+returns-in-Intersection c = decodes _ _ _ c.args.problem.now.opened c.requires _ c.from-line.ensures c.in-Ok.ensures c.in-Intersection.is refl (omega arith)
 
 pub returns-in-Exactly : goal.returns-in-Exactly
-returns-in-Exactly c = reads_as _ _ _ c.args.problem.now.opened c.requires _ c.from-line.ensures c.in-Ok.ensures c.in-Exactly.is
+returns-in-Exactly c = decodes_list _ _ _ c.args.problem.now.opened c.requires _ c.from-line.ensures c.in-Ok.ensures c.in-Exactly.is c.entries.ensures.0 c.entries.ensures.1
 
 pub returns-in-Interval : goal.returns-in-Interval
-returns-in-Interval c = reads_as _ _ _ c.args.problem.now.opened c.requires _ c.from-line.ensures c.in-Ok.ensures c.in-Interval.is
+returns-in-Interval c = decodes_interval _ _ _ c.args.problem.now.opened c.requires _ c.from-line.ensures c.in-Ok.ensures c.in-Interval.is c.interval-entries.ensures.0 c.interval-entries.ensures.1

@@ -1,12 +1,10 @@
 -- It begins with the scope, for splits with those that have one; a constraint that the test shows at rest is idle, and dropped.
-use Rattle.std.proofs.Common.{arith, sym, ◌∙◌, subst}
-use Rattle.calculus.specs.Limits.{most_sets, most_terms}
-use Rattle.calculus.specs.Invariants.{ConstraintIn}
+use Rattle.std.proofs.Common.{arith, sym, ◌∙◌}
 use Rattle.calculus.proofs.Bools.{and_l}
 use Rattle.bits.proofs.Bits.{bit_of_and}
 use Rattle.bits.proofs.Taking.{takes_left}
 use Rattle.search.specs.Narrowed.{Narrows}
-use Rattle.search.proofs.Narrowing.{in_limits, rest_idle, unlisted_in, narrows_all, narrows_splits, narrows_one}
+use Rattle.search.proofs.Narrowing.{rest_idle, narrows_all, narrows_splits, narrows_one}
 use Rattle.search.proofs.looked_at.Goals.{then-scope, else-scope}
 use Rattle.search.proofs.looked_at.Goals as goal
 
@@ -24,7 +22,7 @@ pub rests-requires : goal.rests-requires
 rests-requires c =
     let r = c.args.run.now.problem in
     let t = c.loop-n.invariant.there c.in-Some.n c.in-Some.ensures.steps.set in
-    (c.requires.0, unlisted_in c.decode-l.result _ (subst (ConstraintIn most_terms most_sets) c.decode-l.ensures (in_limits r.bytes.now r.table c.in-Some.n r.opened t)))
+    (c.requires.0, c.decode-l.ensures.handled.in_range)
 
 pub loop-n-preserved-then-rests : goal.loop-n-preserved-then-rests
 loop-n-preserved-then-rests c =
@@ -32,7 +30,7 @@ loop-n-preserved-then-rests c =
     let n = c.in-Some.n in
     let i = c.loop-n.invariant in
     record {
-      narrows = narrows_one n i.narrows (omega arith) (rest_idle r.problem.bytes.now r.problem.table n _ c.decode-l.result r.problem.opened (i.there n c.in-Some.ensures.steps.set) r.words_are c.decode-l.ensures (sym c.rests.ensures ∙ c.if-rests.true)) c.bit_at.ensures (omega arith);
+      narrows = narrows_one n i.narrows (omega arith) (rest_idle r.problem.bytes.now r.problem.table n _ c.decode-l.result r.problem.opened (i.there n c.in-Some.ensures.steps.set) r.words_are c.decode-l.ensures.is (sym c.rests.ensures ∙ c.if-rests.true)) c.bit_at.ensures (omega arith);
       there = λ k e. i.there k (takes_left c.in-Some.ensures.steps k e);
     }
 

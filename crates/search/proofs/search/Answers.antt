@@ -8,14 +8,11 @@ use Rattle.search.proofs.search.Goals as goal
 pub search-init : goal.search-init
 search-init c = rw c.into_iter-n-iterator.ensures.into_iter_gives (record { nothing = refl; there = λ i e. c.requires.1 i (c.looked_at-looked.ensures.within i e); quiet = λ b z q. q })
 
-pub entries_of-entries-requires : goal.entries_of-entries-requires
-entries_of-entries-requires c = (c.search.invariant.there c.in-Some.n c.in-Some.ensures.steps.set, c.decode-l.ensures)
-
 pub loop-rule-init : goal.loop-rule-init
 loop-rule-init c =
     let r = c.args.run.now in
     let t = c.search.invariant.there c.in-Some.n c.in-Some.ensures.steps.set in
-    rw c.into_iter-rule-iterator.ensures.into_iter_gives (rules_start r.problem.table c.in-Some.n c.search.invariant.nothing r.problem.opened r.words_are c.requires.0 t c.span_of-rule-items.ensures c.entries_of-entries.ensures)
+    rw c.into_iter-rule-iterator.ensures.into_iter_gives (rules_start r.problem.table c.in-Some.n c.search.invariant.nothing r.problem.opened r.words_are c.requires.0 t c.span_of-rule-items.ensures c.decode-l.ensures)
 
 pub search-preserved : goal.search-preserved
 search-preserved c = next_constraint c.search.invariant c.in-Some.ensures.steps c.loop-rule.invariant (omega (arith, c.in-None-rule.ensures.steps.1.0))

@@ -5,36 +5,33 @@ use Rattle.branch.specs.declared.Asserted.{Asserted}
 use Rattle.step.specs.declared.Act.{Act}
 use Rattle.step.specs.Acts.{performed, Rooted}
 use Rattle.solver.specs.ComesTo.{Wakes}
-use Rattle.solver.proofs.Opening.{terms_few, place_there, shows}
+use Rattle.solver.proofs.Opening.{terms_few, shows}
 use Rattle.solver.proofs.Waking.{narrowed, narrowed_splits, quieted, widened}
 use Rattle.solver.proofs.Taking.{taking, told, is_placed, first_there, somewhere, not_20, inferred, by_arm, low_act, child_sound, child_less}
 use Rattle.solver.proofs.Settling.{reached_start, reached_again, step_goes, step_begun, line}
-use Rattle.solver.proofs.Workers.{rooted, decodes, relisted, keepable, split_next, splitting, split_taking, split_decodes, works_form, works_stopped, works_closed, works_split, worked_begin, worked_done, worked_skip, act_rooted, made, opens, worked_next, worked_stop}
+use Rattle.solver.proofs.Workers.{rooted, keepable, split_next, splitting, split_taking, works_form, works_stopped, works_closed, works_split, worked_begin, worked_done, worked_skip, act_rooted, made, opens, worked_next, worked_stop}
 use Rattle.solver.proofs.+children_work.Goals as goal
 use Rattle.solver.proofs.+children_work.Goals.{children-in-Some+in_ok-work, children-in_default, work-in-Note, work-in-Merge, work-in-Close, work-After-act_of-act, work-Joined-act}
 
 -- ---- the children of a split
 
-pub children-entries_of-entries-requires : goal.children-entries_of-entries-requires
-children-entries_of-entries-requires t c = let q = c.requires.0 in (place_there _ _ c.args.run.now.prepared.problem.opened _ q.located.within.in_problem, split_decodes q)
-
 pub children-loop-k-init : goal.children-loop-k-init
 children-loop-k-init t c =
     let q = c.requires in
     record {
-      worked = worked_begin (split_taking c.args.run.now.prepared.problem.opened q.0 c.entries_of-entries.ensures) (q.0.left _ c.entries_of-entries.ensures) q.1;
+      worked = worked_begin (split_taking c.args.run.now.prepared.problem.opened q.0) q.0.left q.1;
       same = (refl, refl);
     }
 
 pub children-child_at-turn-requires : goal.children-child_at-turn-requires
 children-child_at-turn-requires t c =
-    (keepable (split_taking c.args.run.now.prepared.problem.opened c.requires.0 c.entries_of-entries.ensures), rw c.slots-k-end.ensures at c.loop-k-test.true)
+    (keepable (split_taking c.args.run.now.prepared.problem.opened c.requires.0), rw c.slots-k-end.ensures at c.loop-k-test.true)
 
 pub children-work-requires : goal.children-work-requires
 children-work-requires t c =
     let p = c.args.run.now.prepared in
     let q = c.requires in
-    let s = split_taking p.problem.opened q.0 c.entries_of-entries.ensures in
+    let s = split_taking p.problem.opened q.0 in
     let v = c.loop-k.invariant.worked in
     let l = rw c.slots-k-end.ensures at c.loop-k-test.true in
     let u = c.child_at-turn.ensures in
@@ -49,13 +46,13 @@ children-work-requires t c =
 
 pub children-returns-in_err-work-clause-comes_to : goal.children-returns-in_err-work-clause-comes_to
 children-returns-in_err-work-clause-comes_to t c =
-    let s = split_taking c.args.run.now.prepared.problem.opened c.requires.0 c.entries_of-entries.ensures in
+    let s = split_taking c.args.run.now.prepared.problem.opened c.requires.0 in
     let p = err_from_is_err_and c.from_residual.result c.from_residual.ensures.1 in
     rw (p.1, p.2) (worked_stop s c.loop-k.invariant.worked (rw c.slots-k-end.ensures at c.loop-k-test.true) c.child_at-turn.ensures.0 c.in-Some.is c.perform-next.ensures _ _ _ _ c.in_err-work.ensures.comes_to)
 
 pub children-loop-k-preserved : goal.children-loop-k-preserved
 children-loop-k-preserved t c =
-    let s = split_taking c.args.run.now.prepared.problem.opened c.requires.0 c.entries_of-entries.ensures in
+    let s = split_taking c.args.run.now.prepared.problem.opened c.requires.0 in
     let v = c.loop-k.invariant in
     let l = rw c.slots-k-end.ensures at c.loop-k-test.true in
     let u = c.child_at-turn.ensures.0 in
@@ -66,7 +63,7 @@ children-loop-k-preserved t c =
 
 pub children-returns-clause-comes_to : goal.children-returns-clause-comes_to
 children-returns-clause-comes_to t c =
-    let s = split_taking c.args.run.now.prepared.problem.opened c.requires.0 c.entries_of-entries.ensures in
+    let s = split_taking c.args.run.now.prepared.problem.opened c.requires.0 in
     worked_done s c.loop-k.invariant.worked (rw c.slots-k-end.ensures at c.loop-k-test.false)
 
 -- ---- a branch
@@ -85,7 +82,7 @@ roots_in : (t : ℕ) (c : work-After-act_of-act t) → Rooted c.loop-found.at.pa
 roots_in t c =
     let y = c.loop-found.invariant.ready in
     let k = taking c.args.run.now.prepared.problem.opened y.sound tt (c.in-Some.ensures _ (shows y.sound) y.propagation) in
-    (c.act_of-act.ensures.0 _ _ (is_placed k) (first_there k)).rooted
+    (c.act_of-act.ensures.0 _ (is_placed k) (first_there k)).rooted
 
 pub work-note-then-requires : goal.work-note-then-requires
 work-note-then-requires t c = (subst (Rooted c.loop-found.at.parents) c.in-Note.is (roots_in t (goal.at.work-note-then-requires t c).After-act_of-act)).0
@@ -108,7 +105,7 @@ pub work-returns-in_err-write_step-clause-comes_to : goal.work-returns-in_err-wr
 work-returns-in_err-write_step-clause-comes_to t c =
     let y = c.loop-found.invariant.ready in
     let k = taking c.args.run.now.prepared.problem.opened y.sound tt (c.in-Some.ensures _ (shows y.sound) y.propagation) in
-    let m = inferred k (c.act_of-act.ensures.0 _ _ (is_placed k) (first_there k)) (acted t (goal.at.work-returns-in_err-write_step-clause-comes_to t c).Joined-act).1 in
+    let m = inferred k (c.act_of-act.ensures.0 _ (is_placed k) (first_there k)) (acted t (goal.at.work-returns-in_err-write_step-clause-comes_to t c).Joined-act).1 in
     let p = err_from_is_err_and c.from_residual.result c.from_residual.ensures.1 in
     rw (p.1, p.2) (works_stopped c.loop-found.invariant.reached k (told k m _ refl) _ _ _ _ c.in_err-write_step.ensures.writes)
 
@@ -116,14 +113,14 @@ pub work-returns-then-conflict-clause-comes_to : goal.work-returns-then-conflict
 work-returns-then-conflict-clause-comes_to t c =
     let y = c.loop-found.invariant.ready in
     let k = taking c.args.run.now.prepared.problem.opened y.sound tt (c.in-Some.ensures _ (shows y.sound) y.propagation) in
-    let m = inferred k (c.act_of-act.ensures.0 _ _ (is_placed k) (first_there k)) (acted t (goal.at.work-returns-then-conflict-clause-comes_to t c).Joined-act).1 in
+    let m = inferred k (c.act_of-act.ensures.0 _ (is_placed k) (first_there k)) (acted t (goal.at.work-returns-then-conflict-clause-comes_to t c).Joined-act).1 in
     works_closed c.loop-found.invariant.reached k m c.if-conflict.true _ (rw c.if-conflict.true at c.in_ok-write_step.ensures.writes)
 
 pub work-loop-found-smaller : goal.work-loop-found-smaller
 work-loop-found-smaller t c =
     let y = c.loop-found.invariant.ready in
     let k = taking c.args.run.now.prepared.problem.opened y.sound tt (c.in-Some.ensures _ (shows y.sound) y.propagation) in
-    let m = inferred k (c.act_of-act.ensures.0 _ _ (is_placed k) (first_there k)) (acted t (goal.at.work-loop-found-smaller t c).Joined-act).1 in
+    let m = inferred k (c.act_of-act.ensures.0 _ (is_placed k) (first_there k)) (acted t (goal.at.work-loop-found-smaller t c).Joined-act).1 in
     child_less k m c.if-conflict.false
 
 pub work-loop-found-preserved : goal.work-loop-found-preserved
@@ -134,10 +131,10 @@ work-loop-found-preserved t c =
     let f = c.in-Some.ensures _ (shows y.sound) y.propagation in
     let k = taking p.problem.opened y.sound tt f in
     let d = acted t (goal.at.work-loop-found-preserved t c).Joined-act in
-    let m = inferred k (c.act_of-act.ensures.0 _ _ (is_placed k) (first_there k)) d.1 in
+    let m = inferred k (c.act_of-act.ensures.0 _ (is_placed k) (first_there k)) d.1 in
     let a = c.act_of-act.result in record {
       reached = reached_again v (step_goes k m c.if-conflict.false v.begun (rw c.if-conflict.false at c.in_ok-write_step.ensures.writes));
-      ready = widened p.problem.opened (narrowed p.problem.opened y f) p.words_are a _ (roots_in t (goal.at.work-loop-found-preserved t c).After-act_of-act) (low_act k a (c.act_of-act.ensures.1 f.located.entries)) (subst (λ (x : Act). Wakes p.words x c.wakes-more.result) d.0 c.wakes-more.ensures) d.1 (child_sound k m c.if-conflict.false);
+      ready = widened p.problem.opened (narrowed p.problem.opened y f) p.words_are a _ (roots_in t (goal.at.work-loop-found-preserved t c).After-act_of-act) (low_act k a c.act_of-act.ensures.1) (subst (λ (x : Act). Wakes p.words x c.wakes-more.result) d.0 c.wakes-more.ensures) d.1 (child_sound k m c.if-conflict.false);
       same = let x = c.loop-found.invariant.same in let z = c.in_ok-write_step.ensures.same_buffers in (z.0 ∙ x.0, z.1 ∙ x.1);
     }
 
@@ -153,24 +150,17 @@ work-returns-in_default-search-clause-comes_to t c =
     let y = c.loop-found.invariant.ready in
     works_form c.loop-found.invariant.reached c.args.run.now.prepared.problem.opened y.sound (c.in_default.ensures _ (shows y.sound) y.propagation) (c.in_default-search.ensures _ (shows y.sound) y.splits) _ c.list_form.ensures.lists
 
-pub work-entries_of-entries-requires : goal.work-entries_of-entries-requires
-work-entries_of-entries-requires t c =
-    let o = c.args.run.now.prepared.problem.opened in
-    let y = c.loop-found.invariant.ready in
-    let k = taking o y.sound (c.in_default.ensures _ (shows y.sound) y.propagation) (c.in-Some-search.ensures _ (shows y.sound) y.splits) in
-    (place_there _ _ o _ k.located.within.in_problem, decodes k)
-
 pub work-kept-left-requires : goal.work-kept-left-requires
 work-kept-left-requires t c =
     let y = c.loop-found.invariant.ready in
     let k = taking c.args.run.now.prepared.problem.opened y.sound (c.in_default.ensures _ (shows y.sound) y.propagation) (c.in-Some-search.ensures _ (shows y.sound) y.splits) in
-    keepable (relisted (rooted k) c.entries_of-entries.ensures)
+    keepable (rooted k)
 
 pub work-returns-in_err-write_step-2-clause-comes_to : goal.work-returns-in_err-write_step-2-clause-comes_to
 work-returns-in_err-write_step-2-clause-comes_to t c =
     let y = c.loop-found.invariant.ready in
     let k = taking c.args.run.now.prepared.problem.opened y.sound (c.in_default.ensures _ (shows y.sound) y.propagation) (c.in-Some-search.ensures _ (shows y.sound) y.splits) in
-    let r = relisted (rooted k) c.entries_of-entries.ensures in
+    let r = rooted k in
     let p = err_from_is_err_and c.from_residual-in_err-write_step-2.result c.from_residual-in_err-write_step-2.ensures.1 in
     rw (p.1, p.2) (works_stopped c.loop-found.invariant.reached r (split_next r _ c.kept-left.type_inv (c.kept-left.ensures _ y.sound) _ c.child_count.ensures) _ _ _ _ c.in_err-write_step-2.ensures.writes)
 
@@ -181,7 +171,7 @@ work-children-requires t c =
     let y = c.loop-found.invariant.ready in
     let z = c.in_default.ensures _ (shows y.sound) y.propagation in
     let f = c.in-Some-search.ensures _ (shows y.sound) y.splits in
-    let r = relisted (rooted (taking o y.sound z f)) c.entries_of-entries.ensures in (
+    let r = rooted (taking o y.sound z f) in (
       omega (arith, v.less, c.decreases),
       (
         splitting r _ c.kept-left.type_inv (c.kept-left.ensures _ y.sound) (narrowed_splits o (quieted o y z) f),
@@ -194,5 +184,5 @@ work-returns-clause-comes_to t c =
     let o = c.args.run.now.prepared.problem.opened in
     let y = c.loop-found.invariant.ready in
     let k = taking o y.sound (c.in_default.ensures _ (shows y.sound) y.propagation) (c.in-Some-search.ensures _ (shows y.sound) y.splits) in
-    let r = relisted (rooted k) c.entries_of-entries.ensures in
+    let r = rooted k in
     works_split c.loop-found.invariant.reached r _ (split_next r _ c.kept-left.type_inv (c.kept-left.ensures _ y.sound) _ c.child_count.ensures) _ c.in_ok-write_step-2.ensures.writes _ c.children.ensures.comes_to

@@ -15,7 +15,7 @@ decreases-work l = let p = l.run.now.prepared.problem in remaining p.bytes.now p
 
 abbrev pub invariant-children-loop-k : goal.invariant-children-loop-k
 invariant-children-loop-k l = let p = l.run.prepared.problem in record {
-  worked : Worked p.bytes.now p.table l.run.budget l.b l.found l.entries (written l.initial.out DONE) l.k l.left (written l.out DONE);
+  worked : Worked p.bytes.now p.table l.run.budget l.b l.split.found (written l.initial.out DONE) l.k l.left (written l.out DONE);
   same : SameBuffers l.initial.out l.out;
 }
 

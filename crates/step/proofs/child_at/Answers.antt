@@ -3,17 +3,17 @@ use Rattle.std.proofs.Common.{arith, sym, ◌∙◌}
 use Rattle.step.proofs.Turning.{number_small, entry_there, entry_below, turn_skip, turn_take, number_take, number_skip}
 use Rattle.step.proofs.child_at.Goals as goal
 
-pub bounds-es-c : goal.bounds-es-c
-bounds-es-c c = entry_there c.requires c.if-at-eq20.true
+pub bounds-entries-c : goal.bounds-entries-c
+bounds-entries-c c = rw c.entries.ensures (entry_there c.requires c.if-at-eq20.true)
 
 pub root-h-requires : goal.root-h-requires
-root-h-requires c = (entry_below c.requires c.if-at-eq20.true, c.requires.0.falls)
+root-h-requires c = (rw c.entries.ensures (entry_below c.requires c.if-at-eq20.true), c.requires.0.falls)
 
 pub returns-then-has_bit : goal.returns-then-has_bit
-returns-then-has_bit c = turn_take c.requires c.args.left c.if-at-eq20.true _ c.root-h.ensures.0 (sym c.has_bit.ensures ∙ c.if-has_bit.true) (omega arith) _ c.join_of.ensures _ c.bit_at.ensures
+returns-then-has_bit c = turn_take c.requires c.args.left c.if-at-eq20.true _ (rw c.entries.ensures at c.root-h.ensures.0) (sym c.has_bit.ensures ∙ c.if-has_bit.true) (omega arith) _ c.join_of.ensures _ c.bit_at.ensures
 
 pub returns-else-has_bit : goal.returns-else-has_bit
-returns-else-has_bit c = turn_skip c.requires c.args.left c.if-at-eq20.true _ c.root-h.ensures.0 (sym c.has_bit.ensures ∙ c.if-has_bit.false)
+returns-else-has_bit c = turn_skip c.requires c.args.left c.if-at-eq20.true _ (rw c.entries.ensures at c.root-h.ensures.0) (sym c.has_bit.ensures ∙ c.if-has_bit.false)
 
 pub has_bit-requires-else-at-eq20 : goal.has_bit-requires-else-at-eq20
 has_bit-requires-else-at-eq20 c = let k = number_small c.requires c.if-at-eq20.false in omega arith

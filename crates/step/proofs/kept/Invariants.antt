@@ -3,4 +3,4 @@ use Rattle.step.proofs.Turning.{Numbers}
 use Rattle.step.proofs.kept.Given as goal
 
 abbrev pub invariant-loop-c : goal.invariant-loop-c
-invariant-loop-c l = Numbers l.b l.list l.at l.c l.found
+invariant-loop-c l = Numbers l.b l.at l.c l.found
