@@ -18,7 +18,7 @@ use questions::Refusal;
 use records::Stop;
 use solver::{Ended, solve};
 use terms::MOST_STEPS;
-pub use verdict::Verdict;
+pub use verdict::{Judgement, Verdict};
 
 // The word of a refusal.
 fn declined(no: Refusal) -> u64
@@ -45,7 +45,7 @@ fn ended(run: Ended) -> u64
         Ok(()) if run.counts.forms == 0 => Verdict::False,
         Ok(()) => Verdict::Forms,
     };
-    verdict as u64 + 65536 * run.counts.steps as u64 + 4294967296 * run.counts.forms as u64
+    u64::from(verdict) + 65536 * run.counts.steps as u64 + 4294967296 * run.counts.forms as u64
 }
 
 // The word of a run, or why the call is refused.
@@ -81,8 +81,8 @@ fn checked(problem: &[u8], assignment: &[u8]) -> Result<u64, Refusal>
     };
     let seen = Seen { problem, handed };
     Ok(match seen.lowest() {
-        Some(i) => Verdict::Fails as u64 + 256 * i as u64,
-        None => Verdict::Holds as u64,
+        Some(i) => u64::from(Judgement::Fails) + 256 * i as u64,
+        None => u64::from(Judgement::Holds),
     })
 }
 

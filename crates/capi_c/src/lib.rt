@@ -1,4 +1,4 @@
-// The two calls for C, as include/fuselinda.h declares them. Each is capi's function, with its clauses.
+// The two calls for C, as include/fuselinda.h declares them. Each is capi's function, with its clauses: C can call neither a library's function nor a generic one.
 #![tactic(auto)]
 
 ghost use Rattle.std.specs.Prelude.{◌≡◌};

@@ -3,7 +3,7 @@ use mathlib.Core.Path.{◌≡◌, refl, sym, ap, ap₂, ◌∙◌, subst}
 use mathlib.Core.Bool.{Bool, true, false, ◌&&◌}
 use mathlib.Core.Option.{Option, some}
 use mathlib.Core.List.{List, [], ◌∷◌, map}
-use Prim.Native.Nat.{ℕ, zero, suc, ◌+◌, ◌*◌, ◌-◌, ◌<◌}
+use Prim.Native.Nat.{ℕ, suc, ◌+◌, ◌*◌, ◌-◌, ◌<◌}
 use native.Mathlib.Omega.{arith}
 use native.Mathlib.Decide.{dec_lt}
 use lib.ListN.{length, get_or}
@@ -13,7 +13,7 @@ use Rattle.calculus.specs.Lists.{all, Each}
 use Rattle.calculus.specs.Terms.{Term, SetVar}
 use Rattle.calculus.specs.Meaning.{Constraint, member, nonmember, same, different, relation, negation, exactly, interval, Valuation}
 use Rattle.calculus.specs.Problem.{Problem, constant_count, nameable, set_count, values, value_of, Refers}
-use Rattle.calculus.specs.Reading.{parsed, read, words}
+use Rattle.calculus.specs.Reading.{parsed, read}
 use Rattle.calculus.specs.Encoding.{Handed}
 use Rattle.calculus.specs.Check.{assignment_of, has, exactly?, holds?, lowest}
 use Rattle.calculus.proofs.ReadValid.{read_valid}
@@ -22,6 +22,7 @@ use Rattle.problem.specs.declared.table.Table.{Table}
 use Rattle.problem.specs.Table.{problem_table, constant_of, values_of, TableOf}
 use Rattle.problem.proofs.Access.{constant_read}
 use Rattle.slices.specs.Bytes.{word_at}
+use Rattle.slices.proofs.TwoBytes.{word_read}
 use Rattle.assignment.specs.Laid.{Laid}
 use Rattle.checker.specs.declared.seen.Seen.{Seen}
 use Rattle.checker.specs.Tested.{value_at, seen}
@@ -57,16 +58,6 @@ module _ (n s : ℕ) (v w : Valuation) (a : Agree n s v w) where
   lowest_agrees : (cs : List ℤ) (k : ℕ) → n ≡ length cs + k → (i : ℕ) (ls : List Constraint) → Each (Refers cs n s) ls → lowest v i ls ≡ lowest w i ls
   lowest_agrees cs k e i [] r = refl
   lowest_agrees cs k e i (l ∷ ls) r = ap₂ (λ (x : Bool) (y : Option ℕ). elim x [ true ↦ y | false ↦ some i ]) (tests_agree cs k e l r.0) (lowest_agrees cs k e (suc i) ls r.1)
-
--- number p of the bytes
-word_read : (bs : List ℕ) (p : ℕ) → 2 * p + 1 < length bs → get_or (words bs) p (pos 0) ≡ word_at bs (2 * p)
-word_read [] p l = absurd (omega arith)
-word_read (a ∷ []) p l = absurd (omega arith)
-word_read (a ∷ b ∷ bs) zero l = refl
-word_read (a ∷ b ∷ bs) (suc p) l =
-    let e : 2 * suc p + 1 ≡ suc (suc (2 * p + 1)) = omega arith in
-    let d : 2 * suc p ≡ suc (suc (2 * p)) = omega arith in
-    rw (e, d) (word_read bs p (omega arith))
 
 -- what the check sees agrees with what was handed in
 module _ (s : Seen) (prob : Problem) (p : read s.problem.bytes.now ≡ parsed prob) (shows : TableOf prob s.problem.table) (g : Handed) (laid : Laid s.problem.table.variables s.problem.table.sets g s.handed) where

@@ -93,11 +93,6 @@ impl<'a> Seen<'a> {
     pub fn lowest(&self) -> Option<u8>
         ensures { lowest (seen self.now) 0 (constraints_of (read self.now.problem.bytes.now)) ≡ failing result }
     {
-        for i in 0..self.problem.table.constraints {
-            if !self.holds(i as usize) {
-                return Some(i);
-            }
-        }
-        None
+        (0..self.problem.table.constraints).find(|i| !self.holds(*i as usize))
     }
 }

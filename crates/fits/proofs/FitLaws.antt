@@ -135,7 +135,6 @@ module _ (n : ℕ) (b : Branch) (rows : List ℕ) (of : RowsOf b rows) (fall : F
   -- ---- negations
 
   denied_fits : (k : Negation) (A B C : SetVar) (t j : ℕ) → (A.index < most_sets) × (B.index < most_sets) × (C.index < most_sets) → t < n → (w : ℕ) → w ≡ denied_word rows (denying (operand_of A.index B.index C.index) (negation_row k)) (rt t) → Fits n b (negation k A B C (term t)) j w
-  unfolding denied_word
   denied_fits k A B C t j lows lt w f =
       one_at (negation k A B C (term t)) j t lt refl (λ p. refl) (denied_test K (negation_row k)) (applies_at b t (rt t) (is t) A B C lows (negation_row k) ∙ denied_row k K) w
       (λ h. ap (λ (k : ℕ). bit k h) f ∙ but_three (rt t) _ _ _ (low64 t lt) (met_small b rows of d.0 small.0) (met_small b rows of d.1 small.1) (met_small b rows of d.2 small.2) h

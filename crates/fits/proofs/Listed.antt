@@ -1,15 +1,13 @@
--- The roots of a list's entries, as the code finds them: at each entry the bits found and those to come are those of all.
+-- The roots of a list's entries, as the code finds them.
 use mathlib.Core.Path.{◌≡◌, refl, sym, ap, ap₂, ◌∙◌}
 use mathlib.Core.Logic.{◌⊎◌, inl, inr}
 use mathlib.Core.Bool.{Bool, true, false, ◌&&◌, ◌||◌, not, or-false, or_assoc}
 use mathlib.Core.List.{List, [], ◌∷◌}
-use Prim.Native.Nat.{ℕ, suc, ◌+◌, ◌-◌, ◌^◌, ◌<◌, ◌≤◌}
+use Prim.Native.Nat.{ℕ, ◌-◌, ◌^◌, ◌<◌}
 use native.Mathlib.Omega.{arith}
-use native.Mathlib.Numerals.{add-one}
-use lib.ListN.{length, get_or, drop, drop_of_length-le}
-use lib.Seq.{drop-cons}
+use lib.ListN.{drop}
 use lib.Dec.{eqb}
-use lib.Bits.{bit_and, bit_or, and_lt, or_lt}
+use lib.Bits.{bit_and, bit_or, and_lt}
 use lib.Pow.{pow-lt}
 use borrow.Author.Tests.{eqb-true, eq-eqb}
 use Rattle.calculus.specs.Limits.{most_terms}
@@ -18,37 +16,21 @@ use Rattle.calculus.proofs.Bools.{or_l, or_r, or_cases, eqb_flip}
 use Rattle.calculus.proofs.Masks.{bit_of_or, bit_pow, bit_zero}
 use Rattle.bits.proofs.Bits.{bit_without}
 use Rattle.branch.specs.Held.{root_of}
+use Rattle.std.specs.List.{fold}
 use Rattle.fits.specs.Words.{missed, EntryBits, OfRoots, ByEntries}
 
--- ---- the images of the entries, from place p on: of `roots` the roots, of `entry_bits` the entries
+-- ---- the images of a list's entries, as bits: of `roots` the roots, of `entry_bits` the entries
 
-module _ (f : ℕ → ℕ) (list : List ℕ) where
-  abbrev pub among : ℕ → ℕ → Bool
-  among p h = any (λ (e : ℕ). eqb (f e) h) (drop p list)
+module _ (f : ℕ → ℕ) where
+  abbrev pub with_image : ℕ → ℕ → ℕ
+  with_image w e = bit_or w (2 ^ f e)
 
-  -- the bits found before place p, and what is left
-  pub record Gathered (found p : ℕ) : Type 0 where
-    pub has : (h : ℕ) → (bit found h || among p h) ≡ among 0 h
-    pub small : found < 2 ^ 64
+  from : (list : List ℕ) (w h : ℕ) → bit (fold with_image w list) h ≡ (bit w h || any (λ (e : ℕ). eqb (f e) h) list)
+  from [] w h = sym (or-false (bit w h))
+  from (e ∷ es) w h = rw (from es (with_image w e) h, bit_of_or w (2 ^ f e) h, bit_pow (f e) h, eqb_flip h (f e), or_assoc (bit w h) (eqb (f e) h) (any (λ (k : ℕ). eqb (f k) h) es))
 
-  pub gather_start : Gathered 0 0
-  gather_start = record { has = λ h. rw (bit_zero h); small = omega arith }
-
-  pub gather_more : (found p w : ℕ) → p < length list → f (get_or list p 0) < most_terms → w ≡ 2 ^ f (get_or list p 0) → Gathered found p → Gathered (bit_or found w) (p + 1)
-  gather_more found p w l k e g = record {
-    has = λ h.
-        let r : ℕ = f (get_or list p 0) in
-        let d : among p h ≡ (eqb r h || among (suc p) h) = ap (any (λ (e : ℕ). eqb (f e) h)) (drop-cons list p 0 l) in
-        let b : bit (bit_or found w) h ≡ (bit found h || eqb r h) = bit_of_or found w h ∙ ap (λ (x : Bool). bit found h || x) (ap (λ (n : ℕ). bit n h) e ∙ bit_pow r h ∙ eqb_flip h r) in
-        ap₂ ◌||◌ b (ap (λ (k : ℕ). among k h) (add-one p)) ∙ or_assoc (bit found h) (eqb r h) (among (suc p) h) ∙ ap (λ (x : Bool). bit found h || x) (sym d) ∙ g.has h;
-    small = or_lt 64 found w g.small (let p : 2 ^ f (get_or list p 0) < 2 ^ 64 = pow-lt k in omega arith);
-  }
-
-  pub gather_end : (found p : ℕ) → length list ≤ p → Gathered found p → (h : ℕ) → bit found h ≡ any (λ (e : ℕ). eqb (f e) h) list
-  gather_end found p l g h = sym (or-false (bit found h)) ∙ ap (λ (x : Bool). bit found h || x) (sym none) ∙ g.has h
-    where
-      none : among p h ≡ false
-      none = rw (drop_of_length-le list l)
+  pub image_bits : (list : List ℕ) (w : ℕ) → w ≡ fold with_image 0 list → (h : ℕ) → bit w h ≡ any (λ (e : ℕ). eqb (f e) h) list
+  image_bits list w g h = rw (g, from list 0 h, bit_zero h)
 
 -- ---- the first entry whose class is not in a row, from place p on
 

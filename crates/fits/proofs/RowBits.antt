@@ -105,11 +105,9 @@ module _ (b : Branch) (rows : List ℕ) (of : RowsOf b rows) where
   small l = of.small l.0
 
   decided_small : (a : SetIndex) → a.0 < most_sets → decided_word rows a < 2 ^ 64
-  unfolding decided_word
   decided_small a l = or_lt 64 (get_or rows a.0 0) (get_or rows (most_sets + a.0) 0) (of.small a.0 (omega arith)) (of.small (most_sets + a.0) (omega arith))
 
   pub met_small : (c : Child) → LowChild c → met_word rows c < 2 ^ 64
-  unfolding met_word
   met_small c (p, q, r) = and_lt 64 (bit_and (row c.0) (row c.1)) (row c.2) (and_lt 64 (row c.0) (row c.1) (small c.0 p) (small c.1 q)) (small c.2 r)
 
   module _ (h : ℕ) (l : h < most_terms) where
@@ -123,25 +121,21 @@ module _ (b : Branch) (rows : List ℕ) (of : RowsOf b rows) where
     says k p = of.says k.0 h p l
 
     pub forced_bits : (r : Row) → LowRow r → bit (forced_word rows r) h ≡ (own && ((K r.0 && K r.1) && not (K r.2)))
-    unfolding forced_word
     forced_bits r (x, y, z) =
         bit_without 64 (bit_and (row r.0) (row r.1)) (row r.2) h (and_lt 64 (row r.0) (row r.1) (small r.0 x) (small r.1 y)) (small r.2 z)
         ∙ ap₂ (λ (m n : Bool). m && not n) (bit_of_and (row r.0) (row r.1) h ∙ ap₂ ◌&&◌ (says r.0 x) (says r.1 y)) (says r.2 z)
         ∙ forced_root own (K r.0) (K r.1) (K r.2)
 
     decided_bits : (a : SetIndex) → a.0 < most_sets → bit (decided_word rows a) h ≡ ((own && literal_known b a.0 h) || (own && literal_known b (most_sets + a.0) h))
-    unfolding decided_word
     decided_bits a p = bit_of_or (get_or rows a.0 0) (get_or rows (most_sets + a.0) 0) h ∙ ap₂ ◌||◌ (of.says a.0 h (omega arith) l) (of.says (most_sets + a.0) h (omega arith) l)
 
     pub divided_bits : (s : Split) → LowSplit s → bit (divided_word rows s) h ≡ (own && (K s.0 && not ((literal_known b s.1.0 h || literal_known b (most_sets + s.1.0) h) || (literal_known b s.2.0 h || literal_known b (most_sets + s.2.0) h))))
-    unfolding divided_word
     divided_bits s (p, q, r) =
         bit_without 64 (row s.0) (bit_or (decided_word rows s.1) (decided_word rows s.2)) h (small s.0 p) (or_lt 64 (decided_word rows s.1) (decided_word rows s.2) (decided_small s.1 q) (decided_small s.2 r))
         ∙ ap₂ (λ (m n : Bool). m && not n) (says s.0 p) (bit_of_or (decided_word rows s.1) (decided_word rows s.2) h ∙ ap₂ ◌||◌ (decided_bits s.1 q) (decided_bits s.2 r))
         ∙ divided_root own (K s.0) (literal_known b s.1.0 h) (literal_known b (most_sets + s.1.0) h) (literal_known b s.2.0 h) (literal_known b (most_sets + s.2.0) h)
 
     pub met_bits : (c : Child) → LowChild c → bit (met_word rows c) h ≡ (own && ((K c.0 && K c.1) && K c.2))
-    unfolding met_word
     met_bits c (p, q, r) =
         bit_of_and (bit_and (row c.0) (row c.1)) (row c.2) h ∙ ap₂ ◌&&◌ (bit_of_and (row c.0) (row c.1) h ∙ ap₂ ◌&&◌ (says c.0 p) (says c.1 q)) (says c.2 r)
         ∙ met_root own (K c.0) (K c.1) (K c.2)

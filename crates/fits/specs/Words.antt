@@ -40,22 +40,22 @@ abbrev pub LowDenial : Denial → Type 0
 LowDenial d = LowChild d.0 × LowChild d.1 × LowChild d.2
 
 -- of a propagation rule
-unfoldable pub forced_word : List ℕ → Row → ℕ
+abbrev pub forced_word : List ℕ → Row → ℕ
 forced_word rows r = bit_and (bit_and (row_at rows r.0) (row_at rows r.1)) (2 ^ 64 - 1 - row_at rows r.2)
 
 -- the roots of which it is known whether they are in a set; and of a split
-unfoldable pub decided_word : List ℕ → SetVar → ℕ
+abbrev pub decided_word : List ℕ → SetVar → ℕ
 decided_word rows a = bit_or (get_or rows a.0 0) (get_or rows (most_sets + a.0) 0)
 
-unfoldable pub divided_word : List ℕ → Split → ℕ
+abbrev pub divided_word : List ℕ → Split → ℕ
 divided_word rows s = bit_and (row_at rows s.0) (2 ^ 64 - 1 - bit_or (decided_word rows s.1) (decided_word rows s.2))
 
 -- the roots of which all literals of a child are known
-unfoldable pub met_word : List ℕ → Child → ℕ
+abbrev pub met_word : List ℕ → Child → ℕ
 met_word rows c = bit_and (bit_and (row_at rows c.0) (row_at rows c.1)) (row_at rows c.2)
 
 -- of a negation's split, at root h
-unfoldable pub denied_word : List ℕ → Denial → ℕ → ℕ
+abbrev pub denied_word : List ℕ → Denial → ℕ → ℕ
 denied_word rows d h = bit_and (bit_and (bit_and (2 ^ h) (2 ^ 64 - 1 - met_word rows d.0)) (2 ^ 64 - 1 - met_word rows d.1)) (2 ^ 64 - 1 - met_word rows d.2)
 
 -- a word has the roots of the entries of a list as bits
@@ -83,7 +83,7 @@ pub record ByEntries (parents : List ℕ) (row : ℕ) (list : List ℕ) (j w : �
   pub of_20 : OfRoots parents row → ¬ (j ≡ 19) → (h : ℕ) → h < most_terms → bit w h ≡ (bit row h && not (any (λ (e : ℕ). eqb (root_of parents e) h) list))
 
 -- for splits the roots of a set that are no entries, else the entries that are no roots of it
-unfoldable pub unshared_of : List ℕ → ℕ → Bool → SetVar → ℕ
+abbrev pub unshared_of : List ℕ → ℕ → Bool → SetVar → ℕ
 unshared_of rows entries split a = cond split (bit_and (get_or rows a.0 0) (2 ^ 64 - 1 - entries)) (bit_and entries (2 ^ 64 - 1 - get_or rows a.0 0))
 
 -- one test shows a constraint idle

@@ -25,7 +25,6 @@ fn of(b: &Branch, l: Literal) -> u64
 }
 
 // The roots at which a propagation rule applies.
-#[tactic(auto, unfolding(crate::specs::Words::forced_word))]
 fn forced(b: &Branch, r: Row) -> u64
     requires { LowRow r }
     ensures { result ≡ forced_word b.now.rows r }
@@ -34,7 +33,6 @@ fn forced(b: &Branch, r: Row) -> u64
 }
 
 // The roots at which a split applies.
-#[tactic(auto, unfolding(crate::specs::Words::divided_word, crate::specs::Words::decided_word))]
 fn divided(b: &Branch, s: Split) -> u64
     requires { LowSplit s }
     ensures { result ≡ divided_word b.now.rows s }
@@ -45,7 +43,6 @@ fn divided(b: &Branch, s: Split) -> u64
 }
 
 // The roots of which all literals of a child are known.
-#[tactic(auto, unfolding(crate::specs::Words::met_word))]
 fn met(b: &Branch, c: Child) -> u64
     requires { LowChild c }
     ensures { result ≡ met_word b.now.rows c }
@@ -54,6 +51,7 @@ fn met(b: &Branch, c: Child) -> u64
 }
 
 // The root of t's class.
+#[tactic(auto, using(branch::proofs::Roots::root_le))]
 pub fn root(b: &Branch, t: Term) -> Term
     requires { (t.0 < most_terms) × Falls b.now.parents }
     ensures { (result.0 ≡ root_of b.now.parents t.0) × (result.0 < most_terms) }
@@ -70,7 +68,6 @@ fn together(b: &Branch, t: Term, u: Term) -> u64
 }
 
 // The root of a negation's witness, if its split applies there.
-#[tactic(auto, unfolding(crate::specs::Words::denied_word))]
 fn denied(b: &Branch, d: Denial, w: Term) -> u64
     requires { (w.0 < most_terms) × Falls b.now.parents × LowDenial d }
     ensures { result ≡ denied_word b.now.rows d (root_of b.now.parents w.0) }
@@ -83,11 +80,8 @@ pub fn entry_roots(list: &[u8], b: &Branch) -> u64
     requires { Each (λ e. e < most_terms) list.now × Falls b.now.parents }
     ensures { RootBits b.now.parents list.now result }
 {
-    let mut found = 0;
-    for &e in list {
-        found |= bit_at(root(b, Term(e)).0);
-    }
-    found
+    list.iter()
+        .fold(0, |found, e| found | bit_at(root(b, Term(*e)).0))
 }
 
 // The root of the first entry whose class is not in a row.
@@ -109,15 +103,10 @@ pub fn entry_bits(list: &[u8]) -> u64
     requires { Each (λ e. e < most_terms) list.now }
     ensures { EntryBits list.now result }
 {
-    let mut found = 0;
-    for &e in list {
-        found |= bit_at(e);
-    }
-    found
+    list.iter().fold(0, |found, e| found | bit_at(*e))
 }
 
 // What a list and its set do not share, as bits: for splits the roots of the set that are no entries, else the entries that are no roots of the set. Without any, rule 20 or rule 19 does not apply: a root that is an entry is in its own class.
-#[tactic(auto, unfolding(crate::specs::Words::unshared_of))]
 fn unshared(b: &Branch, entries: u64, a: SetVar, split: bool) -> u64
     requires { a.0 < most_sets }
     ensures { result ≡ unshared_of b.now.rows entries split a }
@@ -141,7 +130,7 @@ pub fn rests(b: &Branch, entries: u64, l: &Constraint, split: bool) -> bool
     }
 }
 
-// Rules 19 and 20, of a set and its entries.
+// Rules 19 and 20, by number, as an instance has it, of a set and its entries.
 fn by_entries(b: &Branch, list: &[u8], entries: u64, a: SetVar, rule: u8) -> u64
     requires { Falls b.now.parents × EntryBits list.now entries × (a.0 < most_sets) }
     ensures { ByEntries b.now.parents (row_at b.now.rows (record { 0 = a.0 })) list.now rule result }
@@ -153,7 +142,7 @@ fn by_entries(b: &Branch, list: &[u8], entries: u64, a: SetVar, rule: u8) -> u64
     row & !entries & !entry_roots(list, b)
 }
 
-// The roots, as bits, at which a rule of a constraint applies, whose entries are also handed as bits; of rule 19 only that of the first entry at which it does.
+// The roots, as bits, at which a rule of a constraint applies; of rule 19 only that of the first entry at which it does. What is promised is the lowest of them.
 pub fn fitting(b: &Branch, entries: u64, l: &Constraint, rule: u8) -> u64
     requires { Falls b.now.parents × Asked entries l.now rule }
     ensures { FitsFor b.now.parents b.now.rows l.now rule result }

@@ -1,19 +1,17 @@
 -- What stands in a problem's bytes and in a listed record.
 use mathlib.Core.Path.{◌≡◌, refl, sym, ap, ◌∙◌}
-use mathlib.Core.Bool.{false}
 use mathlib.Core.List.{List, [], ◌∷◌, ◌++◌}
 use Prim.Native.Nat.{ℕ, suc, ◌+◌, ◌*◌, ◌<◌, ◌≤◌}
 use native.Mathlib.Omega.{arith}
 use lib.ListN.{length, get_or, length-append, get_or-append}
 use lib.Seq.{get_or-append-add}
 use lib.IntN.{pos}
-use borrow.Author.Tests.{lt-ltb, ne_eqb, eq-eqb}
+use borrow.Author.Tests.{lt-ltb}
 use Rattle.calculus.specs.Limits.{most_sets, most_terms}
-use Rattle.calculus.specs.Lists.{bit}
 use Rattle.calculus.specs.Terms.{term}
 use Rattle.calculus.specs.Problem.{Problem, constant_count, term_count, set_count}
 use Rattle.calculus.specs.Reading.{Parsed, parsed, words, signed, read}
-use Rattle.calculus.specs.Forms.{record_length, root_in, inside_in, model_number}
+use Rattle.calculus.specs.Forms.{record_length, root_in, model_number}
 use Rattle.calculus.proofs.Words.{words_length}
 use Rattle.calculus.proofs.Parsers.{one, counted, answered, then, at_given}
 use Rattle.calculus.proofs.Sections.{First}
@@ -23,7 +21,7 @@ use Rattle.problem.specs.declared.table.Table.{Table}
 use Rattle.problem.specs.Table.{problem_table, Opened, constant_of, values_of}
 use Rattle.problem.proofs.Access.{opened, opened_sizes}
 use Rattle.listing_lines.specs.declared.form.Form.{Form}
-use Rattle.listing_lines.specs.Writing.{problem_of, problem_in, Shaped, inside_at}
+use Rattle.listing_lines.specs.Writing.{problem_of, problem_in, Shaped}
 
 -- ---- the problem
 
@@ -103,14 +101,6 @@ module _ (bs : List ℕ) (tab : Table) (o : Opened bs tab) (r : List ℕ) (form 
         let k = known bs tab o in
         rw (lt-ltb (32001 + root) 32768 (omega (arith, shown, form.most t in_range)))
         (ap (λ (h : ℕ). pos (32001 + h)) shown ∙ sym (form.free t in_range (λ i m e. omega (arith, q, shown, k.constants, m, form.shape.lowest t i in_range (omega arith) (sym e)))))
-
--- whether the class of root t is in a set
-module _ (r : List ℕ) (A t : ℕ) where
-  pub no_root : ¬ (root_in r t ≡ t) → inside_at r A t ≡ false
-  no_root n = rw (ne_eqb (root_in r t) t n) refl
-
-  pub a_root : root_in r t ≡ t → inside_at r A t ≡ bit (inside_in r t) A
-  a_root e = rw (eq-eqb (root_in r t) t e) refl
 
 -- what is known of a form's problem
 pub known_of : (f : Form) → Known f.problem.bytes.now f.problem.table

@@ -8,7 +8,7 @@ use Rattle.calculus.specs.Calls.{Verdict, FORMS, FALSE, SPENT, NOROOM, Answer, r
 use Rattle.calculus.specs.Demands.{Shape}
 use Rattle.text.specs.Text.{number, led}
 use Rattle.capi.specs.declared.verdict.Verdict as code
-use Rattle.capi.specs.declared.verdict.Verdict.TheVariants.{Forms, False, Spent, NoRoom, Holds, Fails}
+use Rattle.capi.specs.declared.verdict.Verdict.TheVariants.{Forms, False, Spent, NoRoom}
 use Rattle.listing_lines.specs.declared.answer.Answer as coded
 use Rattle.listing_lines.specs.declared.answer.Answer.TheVariants.{Refused, Ended}
 use Rattle.listing_lines.specs.Listing.{items, program_call, listing}
@@ -50,14 +50,12 @@ verdict_at n = cond (eqb n 1) FORMS (cond (eqb n 2) FALSE (cond (eqb n 3) SPENT 
 unfoldable pub answer_in : ℕ → Answer
 answer_in word = cond (eqb (word % 256) 0) (refusal (word / 256 % 256)) (ended (verdict_at (word % 256)) (word / 65536 % 65536) (word / 4294967296))
 
--- what the code's verdict and answer say (of a run there are four verdicts)
+-- what the code's verdict and answer say
 abbrev pub run_verdict : code.Verdict → Verdict
 run_verdict Forms = FORMS
 run_verdict False = FALSE
 run_verdict Spent = SPENT
 run_verdict NoRoom = NOROOM
-run_verdict Holds = NOROOM
-run_verdict Fails = NOROOM
 
 abbrev pub run_answer : coded.Answer → Answer
 run_answer (Refused n) = refusal n

@@ -11,7 +11,7 @@ ghost use Rattle.listing_lines.specs.Writing.{Shaped, problem_in, inside_at, mem
 use bits::has_bit;
 use branch::{inside_in, root_in};
 use problem::Problem;
-use terms::Term;
+use terms::{SetVar, Term};
 use text::Text;
 
 // A problem and the record of one of its solved forms.
@@ -24,11 +24,11 @@ pub struct Form<'a> {
 
 impl Form<'_> {
     // The value of a term in the model.
-    fn value(&self, t: usize) -> u16
-        requires { t < self.now.problem.table.terms }
-        ensures { signed result ≡ model_number (problem_in self.now.problem.bytes.now) self.now.record.now (term t) }
+    fn value(&self, t: Term) -> u16
+        requires { t.0 < self.now.problem.table.terms }
+        ensures { signed result ≡ model_number (problem_in self.now.problem.bytes.now) self.now.record.now (term t.0) }
     {
-        let h = root_in(self.record, t);
+        let h = root_in(self.record, t.0 as usize);
         if h < self.problem.table.constants as usize {
             return self.problem.constant(Term(h as u8));
         }
@@ -36,17 +36,18 @@ impl Form<'_> {
     }
 
     // Whether a term is a root whose class is known to be in a set.
-    fn is_inside(&self, t: usize, set: u8) -> bool
-        requires { (t < self.now.problem.table.terms) × (set < most_sets) }
-        ensures { result ≡ inside_at self.now.record.now set t }
+    fn is_inside(&self, t: Term, set: SetVar) -> bool
+        requires { (t.0 < self.now.problem.table.terms) × (set.0 < most_sets) }
+        ensures { result ≡ inside_at self.now.record.now set.0 t.0 }
     {
-        root_in(self.record, t) == t && has_bit(inside_in(self.record, t) as u64, set)
+        let i = t.0 as usize;
+        root_in(self.record, i) == i && has_bit(inside_in(self.record, i) as u64, set.0)
     }
 
     // The member of a set that a term stands for, if any, a comma before it unless it is the first.
-    fn say_member(&self, set: u8, t: usize, start: usize, text: &mut Text)
-        requires { (t < self.now.problem.table.terms) × (set < most_sets) × (text.old.end + 7 ≤ length text.old.buffer.now) }
-        ensures wrote { Wrote text.old.buffer.now text.old.end (member_text (problem_in self.now.problem.bytes.now) self.now.record.now set t start text.old.end) text.new.end text.new.buffer.now }
+    fn say_member(&self, set: SetVar, t: Term, start: usize, text: &mut Text)
+        requires { (t.0 < self.now.problem.table.terms) × (set.0 < most_sets) × (text.old.end + 7 ≤ length text.old.buffer.now) }
+        ensures wrote { Wrote text.old.buffer.now text.old.end (member_text (problem_in self.now.problem.bytes.now) self.now.record.now set.0 t.0 start text.old.end) text.new.end text.new.buffer.now }
         ensures short { text.new.end ≤ text.old.end + 7 }
         ensures same { text.new.buffer.ghost_name ≡ text.old.buffer.ghost_name }
     {
@@ -57,16 +58,16 @@ impl Form<'_> {
     }
 
     // The members of a set.
-    fn say_members(&self, set: u8, text: &mut Text)
-        requires { (set < most_sets) × (text.old.end + 450 ≤ length text.old.buffer.now) }
-        ensures wrote { Wrote text.old.buffer.now text.old.end (braces ((model (problem_in self.now.problem.bytes.now) self.now.record.now).members (set_var set))) text.new.end text.new.buffer.now }
+    fn say_members(&self, set: SetVar, text: &mut Text)
+        requires { (set.0 < most_sets) × (text.old.end + 450 ≤ length text.old.buffer.now) }
+        ensures wrote { Wrote text.old.buffer.now text.old.end (braces ((model (problem_in self.now.problem.bytes.now) self.now.record.now).members (set_var set.0))) text.new.end text.new.buffer.now }
         ensures short { text.new.end ≤ text.old.end + 450 }
         ensures same { text.new.buffer.ghost_name ≡ text.old.buffer.ghost_name }
     {
         text.say(b"{");
         let start = text.end;
-        for t in 0..self.problem.table.terms as usize {
-            self.say_member(set, t, start, text);
+        for t in 0..self.problem.table.terms {
+            self.say_member(set, Term(t), start, text);
         }
         text.say(b"}");
     }
@@ -82,10 +83,10 @@ impl Form<'_> {
         let variables = self.problem.table.variables as usize;
         if k < variables {
             text.say(&[self.problem.bytes[2 + 2 * constants + k], b'=']);
-            text.number(self.value(constants + k));
+            text.number(self.value(Term((constants + k) as u8)));
         } else {
             text.say(&[self.problem.bytes[3 + 2 * constants + k], b'=']);
-            self.say_members((k - variables) as u8, text);
+            self.say_members(SetVar((k - variables) as u8), text);
         }
     }
 

@@ -25,7 +25,7 @@ fn name_of(verdict: Verdict) -> &'static [u8]
         Verdict::Forms => b"FORMS ",
         Verdict::False => b"FALSE ",
         Verdict::Spent => b"SPENT ",
-        _ => b"NOROOM ",
+        Verdict::NoRoom => b"NOROOM ",
     }
 }
 

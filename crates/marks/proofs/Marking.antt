@@ -30,41 +30,33 @@ use Rattle.constraints.specs.declared.Constraint.{Constraint}
 use Rattle.constraints.specs.Decoded.{decoded, entries_in, Unpacked}
 use Rattle.constraints.proofs.Decoding.{entries_as}
 use Rattle.fits.specs.Words.{EntryBits}
-use Rattle.quiet.specs.Quiet.{WordsOf, mark_count, mark_word, word_count, pair_mark, split_mark}
+use Rattle.quiet.specs.Quiet.{WordsOf, mark_count, pair_mark, split_mark}
 use Rattle.marks.specs.Marks.{NeedsOf, Marked}
 
 -- ---- marking
 
 -- what marking the literals that are left makes of the words now, marking all makes of the words before
-pub record Marking (all i : ℕ) (before words : List ℕ) (left : ℕ) : Type 0 where
+pub record Marking (all i : ℕ) (before marks : List ℕ) (left : ℕ) : Type 0 where
   pub low : (k : ℕ) → bit left k ≡ true → k < mark_count
-  pub long : length words ≡ word_count
-  pub rest : (after : List ℕ) → Marked left i words after → Marked all i before after
+  pub rest : (after : List ℕ) → Marked left i marks after → Marked all i before after
 
-pub mark_start : (i : ℕ) {all : ℕ} {words : List ℕ} → all < 2 ^ mark_count → length words ≡ word_count → Marking all i words words all
-mark_start i {all} h n = record { low = λ k e. bit_low mark_count all k h e; long = n; rest = λ after r. r }
+pub mark_start : (i : ℕ) {all : ℕ} {marks : List ℕ} → all < 2 ^ mark_count → Marking all i marks marks all
+mark_start i {all} h = record { low = λ k e. bit_low mark_count all k h e; rest = λ after r. r }
 
-module _ {all i left : ℕ} {before words : List ℕ} (g : Marking all i before words left) where
-  pub mark_end : left ≡ 0 → Marked all i before words
-  mark_end e = g.rest words (record { long = refl; front = λ k h. refl; bits = λ k m. sym (ap (λ (x : Bool). bit (get_or words (mark_word k) 0) m || (x && eqb m i)) (no_bit left k e) ∙ or-false (bit (get_or words (mark_word k) 0) m)) })
+module _ {all i left : ℕ} {before marks : List ℕ} (g : Marking all i before marks left) where
+  pub mark_end : left ≡ 0 → Marked all i before marks
+  mark_end e = g.rest marks (λ k m. sym (ap (λ (x : Bool). bit (get_or marks k 0) m || (x && eqb m i)) (no_bit left k e) ∙ or-false (bit (get_or marks k 0) m)))
 
   -- the lowest literal first, and then the others
-  module _ {low then : ℕ} (t : Takes left low then) where
-    low_lt : low < mark_count
-    low_lt = g.low low t.set
+  pub mark_next : {low then one : ℕ} → Takes left low then → length marks ≡ mark_count → one ≡ 2 ^ i → Marking all i before (set marks low (bit_or (get_or marks low 0) one)) then
+  mark_next {low} {then} {one} t long p = record { low = λ k e. g.low k (takes_left t k e); rest = λ after r. g.rest after (λ k m. r k m ∙ same k m (ℕ_discrete k low)) }
+    where
+      word : ℕ
+      word = bit_or (get_or marks low 0) one
 
-    pub mark_next : {one : ℕ} → one ≡ 2 ^ i → Marking all i before (set words (mark_word low) (bit_or (get_or words (mark_word low) 0) one)) then
-    mark_next {one} p = record { low = λ k e. g.low k (takes_left t k e); long = length-set words (mark_word low) word ∙ g.long; rest = λ after r. g.rest after (both after r) }
-      where
-        word : ℕ
-        word = bit_or (get_or words (mark_word low) 0) one
-
-        same : (k m : ℕ) → Dec (k ≡ low) → (bit (get_or (set words (mark_word low) word) (mark_word k) 0) m || (bit then k && eqb m i)) ≡ (bit (get_or words (mark_word k) 0) m || (bit left k && eqb m i))
-        same k m (yes e) = rw (e, get_or-set_same words (mark_word low) word 0 (omega (arith, low_lt, g.long)), bit_of_or (get_or words (mark_word low) 0) one m, p, bit_pow i m, takes_here t, t.set) (or-false (bit (get_or words (mark_word low) 0) m || eqb m i))
-        same k m (no e) = rw (get_or-set_other words (mark_word low) (mark_word k) word 0 (λ q. e (omega arith)), takes_other t k e) refl
-
-        both : (after : List ℕ) → Marked then i (set words (mark_word low) word) after → Marked left i words after
-        both after r = record { long = r.long ∙ length-set words (mark_word low) word; front = λ k h. r.front k h ∙ get_or-set_other words (mark_word low) k word 0 (λ e. omega arith); bits = λ k m. r.bits k m ∙ same k m (ℕ_discrete k low) }
+      same : (k m : ℕ) → Dec (k ≡ low) → (bit (get_or (set marks low word) k 0) m || (bit then k && eqb m i)) ≡ (bit (get_or marks k 0) m || (bit left k && eqb m i))
+      same k m (yes e) = rw (e, get_or-set_same marks low word 0 (omega (arith, g.low low t.set, long)), bit_of_or (get_or marks low 0) one m, p, bit_pow i m, takes_here t, t.set) (or-false (bit (get_or marks low 0) m || eqb m i))
+      same k m (no e) = rw (get_or-set_other marks low k word 0 e, takes_other t k e) refl
 
 -- ---- gathering
 
@@ -84,24 +76,24 @@ module _ {s k t : ℕ} (takes : Takes s k t) (q : ℕ → Bool) where
 
 -- constraint i needs a literal of the mask
 abbrev wakes : List ℕ → (mask i : ℕ) → Bool
-wakes words mask i = any (λ (k : ℕ). bit mask k && bit (get_or words (mark_word k) 0) i) (up_from 0 literal_count)
+wakes marks mask i = any (λ (k : ℕ). bit mask k && bit (get_or marks k 0) i) (up_from 0 literal_count)
 
 -- what is found, and what the literals that are left wake, is what all wake
-pub record Gathering (words : List ℕ) (all found left : ℕ) : Type 0 where
+pub record Gathering (marks : List ℕ) (all found left : ℕ) : Type 0 where
   pub low : (k : ℕ) → bit left k ≡ true → k < literal_count
-  pub bits : (i : ℕ) → (bit found i || wakes words left i) ≡ wakes words all i
+  pub bits : (i : ℕ) → (bit found i || wakes marks left i) ≡ wakes marks all i
 
-pub gather_start : (words : List ℕ) {all left : ℕ} → left ≡ all → left < 2 ^ literal_count → Gathering words all 0 left
-gather_start words {all} {left} e h = record { low = λ k q. bit_low literal_count left k h q; bits = λ i. rw (bit_zero i, e) }
+pub gather_start : (marks : List ℕ) {all left : ℕ} → left ≡ all → left < 2 ^ literal_count → Gathering marks all 0 left
+gather_start marks {all} {left} e h = record { low = λ k q. bit_low literal_count left k h q; bits = λ i. rw (bit_zero i, e) }
 
-pub gather_next : {words : List ℕ} {all found left low then : ℕ} → Gathering words all found left → Takes left low then → Gathering words all (bit_or found (get_or words (mark_word low) 0)) then
-gather_next {words} {all} {found} {left} {low} {then} g t = record { low = λ k e. g.low k (takes_left t k e); bits = λ i. rw (bit_of_or found (word low) i, or_assoc (bit found i) (bit (word low) i) (wakes words then i), ← any_next t (λ k. bit (word k) i) literal_count 0 (omega arith) (omega (arith, g.low low t.set))) (g.bits i) }
+pub gather_next : {marks : List ℕ} {all found left low then : ℕ} → Gathering marks all found left → Takes left low then → Gathering marks all (bit_or found (get_or marks low 0)) then
+gather_next {marks} {all} {found} {left} {low} {then} g t = record { low = λ k e. g.low k (takes_left t k e); bits = λ i. rw (bit_of_or found (word low) i, or_assoc (bit found i) (bit (word low) i) (wakes marks then i), ← any_next t (λ k. bit (word k) i) literal_count 0 (omega arith) (omega (arith, g.low low t.set))) (g.bits i) }
   where
     word : ℕ → ℕ
-    word k = get_or words (mark_word k) 0
+    word k = get_or marks k 0
 
-pub gather_end : {words : List ℕ} {all found left : ℕ} → Gathering words all found left → left ≡ 0 → (i : ℕ) → bit found i ≡ wakes words all i
-gather_end {words} {all} {found} g e i = sym (or-false (bit found i)) ∙ ap (λ (x : ℕ). bit found i || wakes words x i) (sym e) ∙ g.bits i
+pub gather_end : {marks : List ℕ} {all found left : ℕ} → Gathering marks all found left → left ≡ 0 → (i : ℕ) → bit found i ≡ wakes marks all i
+gather_end {marks} {all} {found} g e i = sym (or-false (bit found i)) ∙ ap (λ (x : ℕ). bit found i || wakes marks x i) (sym e) ∙ g.bits i
 
 -- ---- the words of the constraints before i
 
@@ -110,53 +102,46 @@ pub entries_by : {bs : List ℕ} {i : ℕ} {l : Constraint} → Unpacked bs i l 
 entries_by {l = l} u h = ap (λ (x : calculus.Constraint). any (λ (e : Term). eqb e.index h) (entries_of x)) u.is ∙ ap (any (λ (e : Term). eqb e.index h)) (entries_as l) ∙ any_map (λ (e : Term). eqb e.index h) term (entries_in l)
 
 abbrev FilledAt : List ℕ → List ℕ → ℕ → Type 0
-FilledAt bs words k = ((h : ℕ) → bit (get_or words k 0) h ≡ any (λ (e : Term). eqb e.index h) (entries_of (constraint_of bs k))) × (get_or words k 0 < 2 ^ 64)
+FilledAt bs entries k = ((h : ℕ) → bit (get_or entries k 0) h ≡ any (λ (e : Term). eqb e.index h) (entries_of (constraint_of bs k))) × (get_or entries k 0 < 2 ^ 64)
 
-pub record Filled (bs words : List ℕ) (i : ℕ) : Type 0 where
-  pub long : length words ≡ word_count
-  pub entries : (k : ℕ) → k < i → FilledAt bs words k
-  pub needed : (k : ℕ) → k < i → (w : ℕ) × NeedsOf (constraint_of bs k) w × ((h : ℕ) → bit w h ≡ true → bit (get_or words (mark_word h) 0) k ≡ true)
-  pub low : (h k : ℕ) → bit (get_or words (mark_word h) 0) k ≡ true → k < i
+pub record Filled (bs entries marks : List ℕ) (i : ℕ) : Type 0 where
+  pub long : length entries ≡ most_constraints
+  pub listed : (k : ℕ) → k < i → FilledAt bs entries k
+  pub needed : (k : ℕ) → k < i → (w : ℕ) × NeedsOf (constraint_of bs k) w × ((h : ℕ) → bit w h ≡ true → bit (get_or marks h 0) k ≡ true)
+  pub low : (h k : ℕ) → bit (get_or marks h 0) k ≡ true → k < i
   pub in_problem : i ≤ length (constraints_of (read bs))
 
-pub fill_start : (bs : List ℕ) → Filled bs (replicate word_count 0) 0
-fill_start bs = record { long = refl; entries = λ k l. absurd (omega arith); needed = λ k l. absurd (omega arith); low = λ h k e. clash e (ap (λ (x : ℕ). bit x k) (zeros word_count (mark_word h)) ∙ bit_zero k); in_problem = omega arith }
+pub fill_start : (bs : List ℕ) → Filled bs (replicate most_constraints 0) (replicate mark_count 0) 0
+fill_start bs = record { long = refl; listed = λ k l. absurd (omega arith); needed = λ k l. absurd (omega arith); low = λ h k e. clash e (ap (λ (x : ℕ). bit x k) (zeros mark_count h) ∙ bit_zero k); in_problem = omega arith }
 
-pub fill_next : {bs words after : List ℕ} {i : ℕ} {l : Constraint} {w literals : ℕ} → Filled bs words i → (tab : Table) → Opened bs tab → i < tab.constraints → Unpacked bs i l → EntryBits (entries_in l) w → NeedsOf (decoded l) literals → Marked literals i (set words i w) after → Filled bs after (i + 1)
-fill_next {bs} {words} {after} {i} {w = w} {literals} f tab o t u b n m = record {
-  long = m.long ∙ length-set words i w ∙ f.long;
-  entries = λ k l. entry k l (ℕ_discrete k i);
+pub fill_next : {bs entries marks after : List ℕ} {i : ℕ} {l : Constraint} {w literals : ℕ} → Filled bs entries marks i → (tab : Table) → Opened bs tab → i < tab.constraints → Unpacked bs i l → EntryBits (entries_in l) w → NeedsOf (decoded l) literals → Marked literals i marks after → Filled bs (set entries i w) after (i + 1)
+fill_next {bs} {entries} {marks} {after} {i} {w = w} {literals} f tab o t u b n m = record {
+  long = length-set entries i w ∙ f.long;
+  listed = λ k l. entry k l (ℕ_discrete k i);
   needed = λ k l. need k l (ℕ_discrete k i);
-  low = λ h k e. lower h k (or_cases (bit (get_or words (mark_word h) 0) k) (bit literals h && eqb k i) (sym (bits h k) ∙ e));
+  low = λ h k e. lower h k (or_cases (bit (get_or marks h 0) k) (bit literals h && eqb k i) (sym (m h k) ∙ e));
   in_problem = omega (arith, constraint_count bs tab o);
 }
   where
-    few : i < most_constraints
-    few = omega (arith, (opened_sizes bs tab o).0)
+    entry : (k : ℕ) → k < i + 1 → Dec (k ≡ i) → FilledAt bs (set entries i w) k
+    entry k l (yes e) = rw (e, get_or-set_same entries i w 0 (omega (arith, f.long, (opened_sizes bs tab o).0))) (λ h. b.bits h ∙ sym (entries_by u h), b.small)
+    entry k l (no e) = rw (get_or-set_other entries i k w 0 e) (f.listed k (omega arith))
 
-    bits : (h k : ℕ) → bit (get_or after (mark_word h) 0) k ≡ (bit (get_or words (mark_word h) 0) k || (bit literals h && eqb k i))
-    bits h k = m.bits h k ∙ ap (λ (x : ℕ). bit x k || (bit literals h && eqb k i)) (get_or-set_other words i (mark_word h) w 0 (λ e. omega (arith, few)))
+    need : (k : ℕ) → k < i + 1 → Dec (k ≡ i) → (x : ℕ) × NeedsOf (constraint_of bs k) x × ((h : ℕ) → bit x h ≡ true → bit (get_or after h 0) k ≡ true)
+    need k l (yes e) = (literals, rw (e, u.is) n, λ h q. m h k ∙ or_r (bit (get_or marks h 0) k) (and_i q (eq-eqb k i e)))
+    need k l (no e) = let v = f.needed k (omega arith) in (v.0, v.1, λ h q. m h k ∙ or_l (bit literals h && eqb k i) (v.2 h q))
 
-    entry : (k : ℕ) → k < i + 1 → Dec (k ≡ i) → FilledAt bs after k
-    entry k l (yes e) = rw (e, m.front i few, get_or-set_same words i w 0 (omega (arith, f.long, few))) (λ h. b.bits h ∙ sym (entries_by u h), b.small)
-    entry k l (no e) = rw (m.front k (omega (arith, few)), get_or-set_other words i k w 0 e) (f.entries k (omega arith))
-
-    need : (k : ℕ) → k < i + 1 → Dec (k ≡ i) → (x : ℕ) × NeedsOf (constraint_of bs k) x × ((h : ℕ) → bit x h ≡ true → bit (get_or after (mark_word h) 0) k ≡ true)
-    need k l (yes e) = (literals, rw (e, u.is) n, λ h q. bits h k ∙ or_r (bit (get_or words (mark_word h) 0) k) (and_i q (eq-eqb k i e)))
-    need k l (no e) = let v = f.needed k (omega arith) in (v.0, v.1, λ h q. bits h k ∙ or_l (bit literals h && eqb k i) (v.2 h q))
-
-    lower : (h k : ℕ) → (bit (get_or words (mark_word h) 0) k ≡ true) ⊎ ((bit literals h && eqb k i) ≡ true) → k < i + 1
+    lower : (h k : ℕ) → (bit (get_or marks h 0) k ≡ true) ⊎ ((bit literals h && eqb k i) ≡ true) → k < i + 1
     lower h k (inl e) = omega (arith, f.low h k e)
     lower h k (inr e) = omega (arith, eqb-true k i (and_r (bit literals h) (eqb k i) e))
 
-pub fill_end : {bs words : List ℕ} {i : ℕ} → Filled bs words i → (tab : Table) → Opened bs tab → tab.constraints ≤ i → WordsOf (constraints_of (read bs)) words
+pub fill_end : {bs entries marks : List ℕ} {i : ℕ} → Filled bs entries marks i → (tab : Table) → Opened bs tab → tab.constraints ≤ i → WordsOf (constraints_of (read bs)) entries marks
 unfolding constraint_of
 fill_end {bs} {i = i} f tab o e =
     let n = constraint_count bs tab o in
     record {
-      long = f.long;
-      entries = λ k l. (f.entries k (omega arith)).0;
-      small = λ k l. (f.entries k (omega arith)).1;
+      listed = λ k l. (f.listed k (omega arith)).0;
+      small = λ k l. (f.listed k (omega arith)).1;
       needing = λ k l j h r q. let v = f.needed k (omega arith) in v.2 h ((v.1.rules j r).needing h q);
       paired = λ k l j r q. let v = f.needed k (omega arith) in v.2 pair_mark ((v.1.rules j r).paired q);
       splits = λ k l j v. let w = f.needed k (omega arith) in w.2 split_mark (w.1.splits j v);

@@ -1,6 +1,5 @@
--- The literals that a constraint's rules need, as bits, and how the words by literal are marked with them.
-use Rattle.std.specs.Prelude.{◌≡◌, true, ◌&&◌, ◌||◌, List, ℕ, ◌^◌, ◌<◌, length, get_or, eqb}
-use Rattle.calculus.specs.Limits.{most_constraints}
+-- The literals that a constraint's rules need, as bits, and how the words by mark are marked with them.
+use Rattle.std.specs.Prelude.{◌≡◌, true, ◌&&◌, ◌||◌, List, ℕ, ◌^◌, ◌<◌, get_or, eqb}
 use Rattle.calculus.specs.Lists.{bit}
 use Rattle.calculus.specs.Meaning.{Constraint}
 use Rattle.places.specs.Places.{split_span, InSpan, RuleOf}
@@ -8,7 +7,7 @@ use Rattle.constraints.specs.declared.Relation.{Relation}
 use Rattle.constraints.specs.declared.Operands.{Operands}
 use Rattle.constraints.specs.declared.Constraint.TheVariants.{Related}
 use Rattle.constraints.specs.Decoded.{decoded}
-use Rattle.quiet.specs.Quiet.{needs, pairs, pair_mark, rest_mark, split_mark, mark_count, mark_word}
+use Rattle.quiet.specs.Quiet.{needs, pairs, pair_mark, rest_mark, split_mark, mark_count}
 
 -- A word has each literal that rule j of a constraint needs, and pair_mark if it needs two facts of one class.
 pub record RuleNeeds (l : Constraint) (j word : ℕ) : Type 0 where
@@ -26,8 +25,6 @@ pub record NeedsOf (l : Constraint) (word : ℕ) : Type 0 where
   pub splits : (j : ℕ) → InSpan (split_span l) j → bit word split_mark ≡ true
   pub small : word < 2 ^ mark_count
 
--- Bit i is set in the words of these literals, which stand after those of the constraints, and nothing else changes.
-pub record Marked (literals i : ℕ) (before after : List ℕ) : Type 0 where
-  pub long : length after ≡ length before
-  pub front : (k : ℕ) → k < most_constraints → get_or after k 0 ≡ get_or before k 0
-  pub bits : (k m : ℕ) → bit (get_or after (mark_word k) 0) m ≡ (bit (get_or before (mark_word k) 0) m || (bit literals k && eqb m i))
+-- Bit i is set in the words of these literals, and nothing else changes.
+abbrev pub Marked : (literals i : ℕ) (before after : List ℕ) → Type 0
+Marked literals i before after = (k m : ℕ) → bit (get_or after k 0) m ≡ (bit (get_or before k 0) m || (bit literals k && eqb m i))

@@ -8,7 +8,7 @@ ghost use Rattle.calculus.specs.Limits.{most_sets, most_constraints, most_terms}
 ghost use Rattle.calculus.specs.Invariants.{ConstraintIn};
 ghost use Rattle.constraints.specs.Decoded.{decoded};
 ghost use Rattle.rules.specs.Rows.{HasRow};
-ghost use Rattle.quiet.specs.Quiet.{mark_count, word_count};
+ghost use Rattle.quiet.specs.Quiet.{mark_count};
 ghost use Rattle.marks.specs.Marks.{Premised, NeedsOf, Marked};
 
 use bits::{Ones, bit_at};
@@ -26,14 +26,8 @@ pub const REST: u8 = PAIR + 1;
 
 pub const SPLIT: u8 = PAIR + 2;
 
-// The words of a run: one for each constraint, then one for each mark.
-pub const PAIR_WORD: usize = MOST_CONSTRAINTS + LITERALS;
-
-pub const REST_WORD: usize = PAIR_WORD + 1;
-
-pub const SPLIT_WORD: usize = PAIR_WORD + 2;
-
-pub const WORDS: usize = PAIR_WORD + 3;
+// How many marks there are.
+pub const MARKS: usize = LITERALS + 3;
 
 // The literals, as bits, that a propagation rule of three sets needs. PAIR says that it needs two.
 fn premises(rule: u8, of: Operands) -> u64
@@ -74,12 +68,12 @@ fn needed(l: &Constraint) -> u64
 }
 
 // Bit i is set in the words of some literals, and other marks, each in its own.
-fn mark(words: &mut [u64; WORDS], literals: u64, i: u8)
+fn mark(marks: &mut [u64; MARKS], literals: u64, i: u8)
     requires { (literals < 2 ^ mark_count) × (i < most_constraints) }
-    ensures { Marked literals i words.old words.new }
+    ensures { Marked literals i marks.old marks.new }
 {
     for k in Ones(literals) {
-        words[MOST_CONSTRAINTS + k as usize] |= bit_at(i);
+        marks[k as usize] |= bit_at(i);
     }
 }
 
@@ -87,15 +81,17 @@ fn mark(words: &mut [u64; WORDS], literals: u64, i: u8)
 pub fn prepare<'a>(problem: &Problem<'a>) -> Prepared<'a>
     ensures { (result.problem.bytes.now ≡ problem.now.bytes.now) × (result.problem.table ≡ problem.now.table) }
 {
-    let mut words = [0; WORDS];
+    let mut entries = [0; MOST_CONSTRAINTS];
+    let mut marks = [0; MARKS];
     for i in 0..problem.table.constraints {
         let n = i as usize;
         let l = decode(problem, n);
-        words[n] = entry_bits(l.entries());
-        mark(&mut words, needed(&l), i);
+        entries[n] = entry_bits(l.entries());
+        mark(&mut marks, needed(&l), i);
     }
     Prepared {
         problem: *problem,
-        words,
+        entries,
+        marks,
     }
 }

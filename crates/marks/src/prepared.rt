@@ -4,30 +4,33 @@ ghost use Rattle.calculus.specs.Lists.{up_from, any, bit};
 ghost use Rattle.calculus.specs.Reading.{read};
 ghost use Rattle.problem.specs.Table.{constraints_of};
 ghost use Rattle.branch.specs.Rows.{literals, literal_count};
-ghost use Rattle.quiet.specs.Quiet.{WordsOf, mark_word};
+ghost use Rattle.quiet.specs.Quiet.{WordsOf};
 
-use crate::WORDS;
+use crate::MARKS;
 use bits::Ones;
 use branch::literals_of;
 use problem::Problem;
 use terms::{MOST_CONSTRAINTS, Mask};
 
-// A problem, and words of bits. By constraint its entries; by literal at least the constraints that need it; at least those that a merge can wake; those that may rest; and last at least those with a split.
+// A problem, and words of bits that a run looks up. There is no heap: they are two arrays.
 #[derive(Clone, Copy)]
 pub struct Prepared<'a> {
     pub problem: Problem<'a>,
-    pub words: [u64; WORDS],
-    pub ghost words_are: { WordsOf (constraints_of (read problem.bytes.now)) words },
+    // By constraint, its entries.
+    pub entries: [u64; MOST_CONSTRAINTS],
+    // By mark, the constraints that have it: at least those that need a literal, that a merge can wake, that have a split; and those that may rest.
+    pub marks: [u64; MARKS],
+    pub ghost words_are: { WordsOf (constraints_of (read problem.bytes.now)) entries marks },
 }
 
 impl Prepared<'_> {
     // The constraints, as bits, that need a literal of the masks.
     pub fn woken(&self, ins: Mask, outs: Mask) -> u64
-        ensures { (i : ℕ) → bit result i ≡ any (λ k. bit (literals ins outs) k && bit (get_or self.now.words (mark_word k) 0) i) (up_from 0 literal_count) }
+        ensures { (i : ℕ) → bit result i ≡ any (λ k. bit (literals ins outs) k && bit (get_or self.now.marks k 0) i) (up_from 0 literal_count) }
     {
         let mut found = 0;
         for k in Ones(literals_of(ins, outs) as u64) {
-            found |= self.words[MOST_CONSTRAINTS + k as usize];
+            found |= self.marks[k as usize];
         }
         found
     }

@@ -1,13 +1,13 @@
 -- The laws of reading the constraints one by one. Assumes nothing.
 use mathlib.Core.Path.{◌≡◌, refl, sym, ap, ◌∙◌}
 use mathlib.Core.Bool.{Bool, true, false, ◌&&◌}
-use mathlib.Core.List.{List, [], ◌∷◌, ◌++◌}
+use mathlib.Core.List.{List, [], ◌∷◌, ◌++◌, append-nil}
 use Prim.Native.Nat.{ℕ, suc, ◌+◌, ◌-◌, ◌%◌, ◌<◌, ◌≤◌}
 use native.Mathlib.Omega.{arith}
 use native.Mathlib.Numerals.{add-one}
 use native.Mathlib.Decide.{ℕ_discrete}
-use lib.ListN.{length, get_or, take, drop, set, replicate, length-append, length-drop}
-use lib.Seq.{drop-drop, drop-append_seam, sets, sets-eq, take-length, get_or-set_other}
+use lib.ListN.{length, get_or, take, drop, set, replicate, length-append, length-drop, length-replicate, drop_of_length-le}
+use lib.Seq.{drop-drop, drop-append_seam, length-take-le, sets, sets-eq, take-length, get_or-set_other}
 use lib.Dec.{ltb}
 use lib.IntN.{ℤ}
 use Rattle.std.specs.Prelude.{Result, Ok, Err}
@@ -118,16 +118,21 @@ found_length : (at w : ℕ) (ls : List Constraint) → length (lines_found at w 
 found_length at w [] = refl
 found_length at w (l ∷ ls) = ap suc (found_length (at + length (encode_constraint l)) (w + uses l) ls)
 
-stored : (xs : List Line) → length xs ≤ most_constraints → sets (replicate most_constraints no_line) 0 xs ≡ filled no_line most_constraints xs
-stored xs l =
-    let z : 0 + length xs ≡ length xs = omega arith in
-    sets-eq xs (replicate most_constraints no_line) 0 (omega arith) ∙ ap (λ (ys : List Line). xs ++ ys) (rw z (drop-replicate (length xs) most_constraints no_line))
+pub first_lines : (m : ℕ) → m ≤ most_constraints → length (take m (replicate most_constraints no_line)) ≡ m
+first_lines m l = length-take-le m (replicate most_constraints no_line) (rw (length-replicate most_constraints no_line) l)
+
+-- lines in place of the first m, and the others as they were
+stored : (m : ℕ) (xs : List Line) → length xs ≡ m → m ≤ most_constraints
+    → sets (take m (replicate most_constraints no_line)) 0 xs ++ drop m (replicate most_constraints no_line) ≡ filled no_line most_constraints xs
+stored m xs e l =
+    let z : drop (0 + length xs) (take m (replicate most_constraints no_line)) ≡ [] = drop_of_length-le _ {i = 0 + length xs} (omega (arith, first_lines m l)) in
+    rw (sets-eq xs (take m (replicate most_constraints no_line)) 0 (omega (arith, first_lines m l)), z, append-nil xs, drop-replicate m most_constraints no_line, e) refl
 
 -- the first constraint stands at a place `at` of the problem
 module _ (cs : List ℤ) (N S : ℕ) (bs : List ℕ) (at m : ℕ) where
-  -- what is found once the rest is read, from done on, and stored from line i on
+  -- what is found once the rest is read, from done on, and stored from line i of the first m on
   abbrev Stored : (done w i : ℕ) → List Line → List Constraint × ℕ × List ℕ → Found → Type 0
-  Stored done w i lines a r = r ≡ record { length = length bs - length a.2; terms = a.1; lines = sets lines i (lines_found (at + done) w a.0) }
+  Stored done w i lines a r = r ≡ record { length = length bs - length a.2; terms = a.1; lines = sets lines i (lines_found (at + done) w a.0) ++ drop m (replicate most_constraints no_line) }
 
   abbrev Rest : (done w i : ℕ) → List Line → Result Found Refusal → Type 0
   Rest done w i lines r = Answers (Stored done w i lines) (constraints cs N S w (m - i) (drop done bs)) r
@@ -139,18 +144,18 @@ module _ (cs : List ℤ) (N S : ℕ) (bs : List ℕ) (at m : ℕ) where
   abbrev pub Ends : (done w i : ℕ) → List Line → Type 0
   Ends done w i lines = (r : Result Found Refusal) → Rest done w i lines r → All r
 
-  pub ends_all : Rising cs → length cs ≤ N → m ≤ most_constraints → Ends 0 N 0 (replicate most_constraints no_line)
+  pub ends_all : Rising cs → length cs ≤ N → m ≤ most_constraints → Ends 0 N 0 (take m (replicate most_constraints no_line))
   unfolding found_of
   ends_all up known few r h =
       let z : m - 0 ≡ m = omega arith in
       go (constraints cs N S N m bs) refl r (rw z at h)
     where
-      go : (p : Parsed (List Constraint × ℕ × List ℕ)) → constraints cs N S N m bs ≡ p → (r : Result Found Refusal) → Answers (Stored 0 N 0 (replicate most_constraints no_line)) p r → Answers (FoundAs at N (length bs)) p r
+      go : (p : Parsed (List Constraint × ℕ × List ℕ)) → constraints cs N S N m bs ≡ p → (r : Result Found Refusal) → Answers (Stored 0 N 0 (take m (replicate most_constraints no_line))) p r → Answers (FoundAs at N (length bs)) p r
       go (parsed a) q (Ok f) h =
           let g = (constraints_read cs N S up known m N).wrote bs a q in
           let y : g.0.0 ≡ a.0 = cc g.4 in
           let z : at + 0 ≡ at = omega arith in
-          rw (← stored (lines_found at N a.0) (omega (arith, found_length at N a.0, ap length y, g.5.0))) (rw z at h)
+          rw (← stored m (lines_found at N a.0) (omega (arith, found_length at N a.0, ap length y, g.5.0)) few) (rw z at h)
       go (parsed a) q (Err e) h = h
       go (refused n) q (Ok f) h = h
       go (refused n) q (Err e) h = h

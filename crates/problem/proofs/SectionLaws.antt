@@ -65,9 +65,9 @@ module _ (size number : ℕ) (test : ℕ → List ℕ → Bool) (p : Parsed (ℕ
     asked_no q e t = let w = was_parsed (SplitAs size) p r h in rw (w.1, ← w.2.1, t w.0.0 w.2.0) e
 
 -- the sets are asked for their letters and then for their number
-pub sets_asked : (bs : List ℕ) → sets_section bs ≡ asked 1 5 (λ n xs. leb n most_sets) (letters_section 5 65 90 bs)
+pub sets_asked : {lo hi : ℕ} → lo ≡ 65 → hi ≡ 90 → (bs : List ℕ) → sets_section bs ≡ asked 1 5 (λ n xs. leb n most_sets) (letters_section 5 lo hi bs)
 unfolding section ◌>>=◌ ask
-sets_asked bs = go (counted 1 bs)
+sets_asked l h bs = rw (l, h) (go (counted 1 bs))
   where
     go : (m : Parsed (ℕ × List ℕ × List ℕ)) → (m >>= λ a. ask 5 (letters 65 90 a.1 && leb a.0 most_sets) >>= λ _. parsed a)
         ≡ asked 1 5 (λ n xs. leb n most_sets) (m >>= λ a. ask 5 (letters 65 90 a.1) >>= λ _. parsed a)

@@ -11,7 +11,7 @@ use crate::table::Table;
 use slices::word;
 use terms::{MOST_TERMS, Term};
 
-// The numbers of all terms stand beside it: an interval's entries are a part of them.
+// The numbers of all terms stand beside it: an interval's entries are a part of them. There is no heap: they are an array, as the table's lines are.
 #[derive(Clone, Copy)]
 pub struct Problem<'a> {
     pub bytes: &'a [u8],

@@ -1,5 +1,6 @@
 // The sections of a problem: each function answers the question that refuses it, or its part and what follows.
 ghost use Rattle.std.specs.Prelude.{◌≡◌, ◌+◌, ◌*◌, ◌≤◌, ◌<◌, length};
+ghost use Rattle.std.specs.Range.{range_inclusive_start, range_inclusive_end};
 ghost use Rattle.calculus.specs.Limits.{most_bytes, most_constraints};
 ghost use Rattle.calculus.specs.Reading.{constraints, words};
 ghost use Rattle.questions.specs.Answers.{Answers, number_of};
@@ -7,6 +8,7 @@ ghost use Rattle.problem.specs.Sections.{counted, letters_section, constants_sec
 
 use crate::table::Line;
 use questions::{Names, Refusal, constants_ok, constraint_at, letters_ok};
+use std::ops::RangeInclusive;
 use terms::{MOST_CONSTRAINTS, MOST_SETS, Term};
 
 // Question 2 of a section: its count, and size bytes for each, are there.
@@ -32,12 +34,16 @@ pub fn constants_at(bytes: &[u8]) -> Result<(&[u8], &[u8]), Refusal>
     Ok((constants, rest))
 }
 
-// Questions 2 and 4 or 5: letters from lo to hi, or they are refused.
-fn letters_at(bytes: &[u8], lo: u8, hi: u8, no: Refusal) -> Result<(&[u8], &[u8]), Refusal>
-    ensures { Splits 1 (letters_section (number_of no) lo hi bytes.now) result }
+// Questions 2 and 4 or 5: letters of a range, or they are refused.
+fn letters_at(
+    bytes: &[u8],
+    range: RangeInclusive<u8>,
+    no: Refusal,
+) -> Result<(&[u8], &[u8]), Refusal>
+    ensures { Splits 1 (letters_section (number_of no) (range_inclusive_start range) (range_inclusive_end range) bytes.now) result }
 {
     let (letters, rest) = section_at(bytes, 1)?;
-    if !letters_ok(letters, lo, hi) {
+    if !letters_ok(letters, range) {
         return Err(no);
     }
     Ok((letters, rest))
@@ -47,14 +53,14 @@ fn letters_at(bytes: &[u8], lo: u8, hi: u8, no: Refusal) -> Result<(&[u8], &[u8]
 pub fn variables_at(bytes: &[u8]) -> Result<(&[u8], &[u8]), Refusal>
     ensures { Splits 1 (variables_section bytes.now) result }
 {
-    letters_at(bytes, b'a', b'z', Refusal::Variables)
+    letters_at(bytes, b'a'..=b'z', Refusal::Variables)
 }
 
 // Questions 2 and 5, of the set variables.
 pub fn sets_at(bytes: &[u8]) -> Result<(&[u8], &[u8]), Refusal>
     ensures { Splits 1 (sets_section bytes.now) result }
 {
-    let (letters, rest) = letters_at(bytes, b'A', b'Z', Refusal::Sets)?;
+    let (letters, rest) = letters_at(bytes, b'A'..=b'Z', Refusal::Sets)?;
     if MOST_SETS < letters.len() {
         return Err(Refusal::Sets);
     }
@@ -80,10 +86,9 @@ pub fn constraints_at(bytes: &[u8], at: usize, m: usize, names: &Names) -> Resul
     }; MOST_CONSTRAINTS];
     let mut length = 0;
     let mut terms = names.nameable;
-    // By index: what a borrow from iter_mut wrote is not known after the loop.
-    for line in 0..m {
+    for line in &mut lines[..m] {
         let one = constraint_at(&bytes[length..], names)?;
-        lines[line] = Line {
+        *line = Line {
             at: (at + length) as u16,
             witness: Term((terms % 256) as u8),
         };

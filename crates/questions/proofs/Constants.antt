@@ -14,36 +14,23 @@ use borrow.Author.Tests.{eq-eqb, ne_eqb, ltb-true}
 use Rattle.calculus.specs.Lists.{all, up_from}
 use Rattle.calculus.specs.Problem.{Rising}
 use Rattle.calculus.specs.Reading.{signed, words, eq_z, gapless}
-use Rattle.calculus.proofs.Words.{words_length}
 use Rattle.calculus.proofs.Integers.{passed}
 use Rattle.slices.specs.Bytes.{bytes_at, raised_at, word_at}
 use Rattle.slices.proofs.Parts.{AllBytes, bytes_fit, raised_small}
+use Rattle.slices.proofs.TwoBytes.{word_read}
 use Rattle.slices.proofs.SignedWords.{raised_next, raised_order}
 use Rattle.questions.specs.Questions.{constant_at, constants_of}
 
--- ---- the numbers of bytes
+-- ---- how many numbers bytes are
 
 pub words_count : (bs : List ℕ) → length (words bs) ≡ length bs / 2
 words_count [] = refl
 words_count (a ∷ []) = refl
 words_count (a ∷ b ∷ bs) = omega (arith, words_count bs)
 
-word_read : (bs : List ℕ) (p : ℕ) → 2 * p + 1 < length bs → get_or (words bs) p (pos 0) ≡ word_at bs (2 * p)
-word_read [] p l = absurd (omega arith)
-word_read (a ∷ []) p l = absurd (omega arith)
-word_read (a ∷ b ∷ bs) zero l = refl
-word_read (a ∷ b ∷ bs) (suc p) l =
-    let e : 2 * suc p + 1 ≡ suc (suc (2 * p + 1)) = omega arith in
-    let d : 2 * suc p ≡ suc (suc (2 * p)) = omega arith in
-    rw (e, d) (word_read bs p (omega arith))
-
 -- ---- the first k constants of a problem
 
 module _ (bs : List ℕ) where
-  pub constants_length : (k : ℕ) → 1 + 2 * k ≤ length bs → length (constants_of bs k) ≡ k
-  unfolding constants_of
-  constants_length k l = words_length k (take (2 * k) (drop 1 bs)) (omega (arith, length-take (2 * k) (drop 1 bs), length-drop 1 bs))
-
   pub constant_read_at : (k p : ℕ) → 1 + 2 * k ≤ length bs → p < k → get_or (constants_of bs k) p (pos 0) ≡ constant_at bs p
   unfolding constants_of
   constant_read_at k p l h =

@@ -20,7 +20,7 @@ pub enum Kind {
     Interval = 12,
 }
 
-// Question 7: the byte is the number of a kind.
+// Question 7: the byte is the number of a kind. Here alone the number is read.
 impl TryFrom<u8> for Kind {
     type Error = Refusal;
 

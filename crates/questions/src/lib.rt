@@ -6,6 +6,7 @@ mod names;
 mod refusal;
 
 ghost use Rattle.std.specs.Prelude.{◌≡◌, ◌&&◌, ◌+◌, ◌*◌, ◌≤◌, ◌<◌, length};
+ghost use Rattle.std.specs.Range.{range_inclusive_start, range_inclusive_end};
 ghost use Rattle.calculus.specs.Limits.{most_bytes};
 ghost use Rattle.calculus.specs.Problem.{Rising};
 ghost use Rattle.calculus.specs.Reading.{ascending, in_range, letters, gapless, constraint, words};
@@ -15,6 +16,7 @@ pub use kind::Kind;
 pub use names::Names;
 pub use refusal::Refusal;
 use slices::{raised, rising};
+use std::ops::RangeInclusive;
 
 // How many bytes a constraint has, and how many witnesses.
 #[derive(Clone, Copy)]
@@ -27,13 +29,14 @@ pub struct Scanned {
 pub fn constants_ok(constants: &[u8]) -> bool
     ensures { result ≡ (ascending (words constants.now) && in_range (words constants.now)) }
 {
-    rising(constants, 768, 64768)
+    rising(constants, 768..=64768)
 }
 
-// Questions 4 and 5: strictly ascending letters from lo to hi.
-pub fn letters_ok(part: &[u8], lo: u8, hi: u8) -> bool
-    ensures { result ≡ letters lo hi part.now }
+// Questions 4 and 5: strictly ascending letters of a range.
+pub fn letters_ok(part: &[u8], range: RangeInclusive<u8>) -> bool
+    ensures { result ≡ letters (range_inclusive_start range) (range_inclusive_end range) part.now }
 {
+    let (lo, hi) = range.into_inner();
     let mut least = lo as usize;
     for &letter in part {
         if (letter as usize) < least || hi < letter {

@@ -23,13 +23,13 @@ use Rattle.branch.specs.declared.Branch.{Branch}
 use Rattle.branch.specs.Rows.{literal_known, literals, literal_count}
 use Rattle.branch.specs.Held.{held, noting, merging, Sound}
 use Rattle.branch.proofs.Rowing.{noted_known, merged_root, merged_known}
-use Rattle.quiet.specs.Quiet.{Quiet, pairs, WordsOf, pair_mark, mark_word}
+use Rattle.quiet.specs.Quiet.{Quiet, pairs, WordsOf, pair_mark}
 use Rattle.quiet.proofs.Growing.{Grows, moved_none}
 use Rattle.quiet.proofs.Keeping.{Spared, idle_kept}
 
 -- the words of constraints that are in range
-pub record Watched (n : ℕ) (ls : List Constraint) (words : List ℕ) : Type 0 where
-  pub words_are : WordsOf ls words
+pub record Watched (n : ℕ) (ls : List Constraint) (entries marks : List ℕ) : Type 0 where
+  pub words_are : WordsOf ls entries marks
   pub in_range : (i : ℕ) → i < length ls → ConstraintIn n most_sets (get_or ls i no_constraint)
   pub few : n ≤ most_terms
 
@@ -62,7 +62,7 @@ module _ {cs : List Term} {b : Branch} (s : Sound cs b) where
     high_root = eh;
   }
 
-module _ {n : ℕ} {ls : List Constraint} {words : List ℕ} (d : Watched n ls words) (split : Bool) (mask woken : ℕ) where
+module _ {n : ℕ} {ls : List Constraint} {entries marks : List ℕ} (d : Watched n ls entries marks) (split : Bool) (mask woken : ℕ) where
   -- a constraint that is not woken is spared
   quiet_kept : {b c : calculus.Branch} {lo hi word : ℕ} → Grows b c lo hi word → ((i : ℕ) → i < length ls → bit woken i ≡ false → Spared n (get_or ls i no_constraint) lo hi word) → Quiet split n ls b mask → Quiet split n ls c (bit_or mask woken)
   quiet_kept g f q i l e =
@@ -70,7 +70,7 @@ module _ {n : ℕ} {ls : List Constraint} {words : List ℕ} (d : Watched n ls w
       idle_kept g (f i l (or_none_r (bit mask i) (bit woken i) z)) split (q i l (or_none_l (bit mask i) (bit woken i) z))
 
   module _ {cs : List Term} {b : Branch} (s : Sound cs b) where
-    pub quiet_noted : {h : ℕ} (ins outs : ℕ) → h < most_terms → root_at (held b) h ≡ h → ((k i : ℕ) → k < literal_count → bit (literals ins outs) k ≡ true → bit (get_or words (mark_word k) 0) i ≡ true → bit woken i ≡ true)
+    pub quiet_noted : {h : ℕ} (ins outs : ℕ) → h < most_terms → root_at (held b) h ≡ h → ((k i : ℕ) → k < literal_count → bit (literals ins outs) k ≡ true → bit (get_or marks k 0) i ≡ true → bit woken i ≡ true)
         → Quiet split n ls (held b) mask → Quiet split n ls (held (noting b h ins outs).branch) (bit_or mask woken)
     quiet_noted ins outs l e f = quiet_kept (noted_grows s ins outs l e) (λ i li q. record {
       in_range = d.in_range i li;
@@ -78,7 +78,7 @@ module _ {n : ℕ} {ls : List Constraint} {words : List ℕ} (d : Watched n ls w
       unpaired = λ j o. inl refl;
     })
 
-    pub quiet_merged : {lo hi : ℕ} → lo < hi → hi < n → root_at (held b) lo ≡ lo → root_at (held b) hi ≡ hi → ((i : ℕ) → bit (get_or words (mark_word pair_mark) 0) i ≡ true → bit woken i ≡ true)
+    pub quiet_merged : {lo hi : ℕ} → lo < hi → hi < n → root_at (held b) lo ≡ lo → root_at (held b) hi ≡ hi → ((i : ℕ) → bit (get_or marks pair_mark 0) i ≡ true → bit woken i ≡ true)
         → Quiet split n ls (held b) mask → Quiet split n ls (held (merging b lo hi).branch) (bit_or mask woken)
     quiet_merged l h el eh f = quiet_kept (merged_grows s l (omega (arith, d.few)) el eh) (λ i li q. record {
       in_range = d.in_range i li;

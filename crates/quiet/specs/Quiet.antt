@@ -1,7 +1,6 @@
 -- Which constraints a search need not look at, and which a step wakes.
 use Rattle.std.specs.Prelude.{◌≡◌, Bool, true, false, ◌&&◌, List, ℕ, ◌+◌, ◌^◌, ◌≤◌, ◌<◌, length, get_or, eqb, ltb}
 use Rattle.std.proofs.Math.Option.{none}
-use Rattle.calculus.specs.Limits.{most_constraints}
 use Rattle.calculus.specs.Lists.{any, bit}
 use Rattle.calculus.specs.Terms.{Term}
 use Rattle.calculus.specs.Relations.{Literal, operand_of}
@@ -55,19 +54,11 @@ split_mark = literal_count + 2
 abbrev pub mark_count : ℕ
 mark_count = literal_count + 3
 
--- the words: one for each constraint, then one for each mark
-abbrev pub mark_word : ℕ → ℕ
-mark_word k = most_constraints + k
-
-abbrev pub word_count : ℕ
-word_count = most_constraints + mark_count
-
--- What is prepared once a run, as bits. By constraint, its entries; by literal, at least the constraints that need it; then at least those that a merge can wake; a word of which nothing is said; and last, at least those that have a split.
-pub record WordsOf (ls : List Constraint) (words : List ℕ) : Type 0 where
-  pub long : length words ≡ word_count
-  pub entries : (i : ℕ) → i < length ls → (h : ℕ) → bit (get_or words i 0) h ≡ any (λ (e : Term). eqb e.index h) (entries_of (get_or ls i no_constraint))
-  pub small : (i : ℕ) → i < length ls → get_or words i 0 < 2 ^ 64
-  pub needing : (i : ℕ) → i < length ls → (j k : ℕ) → RuleOf (get_or ls i no_constraint) j → needs (get_or ls i no_constraint) j k ≡ true → bit (get_or words (mark_word k) 0) i ≡ true
-  pub paired : (i : ℕ) → i < length ls → (j : ℕ) → RuleOf (get_or ls i no_constraint) j → pairs (get_or ls i no_constraint) j ≡ true → bit (get_or words (mark_word pair_mark) 0) i ≡ true
-  pub splits : (i : ℕ) → i < length ls → (j : ℕ) → InSpan (split_span (get_or ls i no_constraint)) j → bit (get_or words (mark_word split_mark) 0) i ≡ true
-  pub low : (k : ℕ) → k ≤ pair_mark → (i : ℕ) → bit (get_or words (mark_word k) 0) i ≡ true → i < length ls
+-- What is prepared once a run, as bits. By constraint, its entries. By mark, constraints: by literal, at least those that need it; then at least those that a merge can wake; a word of which nothing is said; and last, at least those that have a split.
+pub record WordsOf (ls : List Constraint) (entries marks : List ℕ) : Type 0 where
+  pub listed : (i : ℕ) → i < length ls → (h : ℕ) → bit (get_or entries i 0) h ≡ any (λ (e : Term). eqb e.index h) (entries_of (get_or ls i no_constraint))
+  pub small : (i : ℕ) → i < length ls → get_or entries i 0 < 2 ^ 64
+  pub needing : (i : ℕ) → i < length ls → (j k : ℕ) → RuleOf (get_or ls i no_constraint) j → needs (get_or ls i no_constraint) j k ≡ true → bit (get_or marks k 0) i ≡ true
+  pub paired : (i : ℕ) → i < length ls → (j : ℕ) → RuleOf (get_or ls i no_constraint) j → pairs (get_or ls i no_constraint) j ≡ true → bit (get_or marks pair_mark 0) i ≡ true
+  pub splits : (i : ℕ) → i < length ls → (j : ℕ) → InSpan (split_span (get_or ls i no_constraint)) j → bit (get_or marks split_mark 0) i ≡ true
+  pub low : (k : ℕ) → k ≤ pair_mark → (i : ℕ) → bit (get_or marks k 0) i ≡ true → i < length ls

@@ -33,9 +33,9 @@ module _ (n : ℕ) (r : List ℕ) (s : State) where
 
 module _ (budget : ℕ) (r : List ℕ) (s : State) where
   -- a step is left
-  pub noted_there : s.counts.steps < budget → with_step budget r s ≡ wrote_step r s
+  pub noted_there : (s.counts.steps ≡ budget → ⊥) → with_step budget r s ≡ wrote_step r s
   unfolding with_step
-  noted_there l = rw (ne_eqb s.counts.steps budget (λ e. omega arith))
+  noted_there d = rw (ne_eqb s.counts.steps budget d)
 
   -- none is left
   pub noted_not : s.counts.steps ≡ budget → with_step budget r s ≡ state s.counts SPENT s.forms s.trace

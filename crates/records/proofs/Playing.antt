@@ -70,7 +70,7 @@ module _ (n budget : ℕ) where
       go false q =
           let d : s.counts.steps ≡ budget → ⊥ = eqb-false s.counts.steps budget q in
           let l : s.counts.steps < budget = omega (arith, d, F.within) in
-          rw (noted_there budget r s l) (kept s _ F l F.written refl (put_length s.trace (4 * s.counts.steps) r (omega (arith, F.traced))))
+          rw (noted_there budget r s d) (kept s _ F l F.written refl (put_length s.trace (4 * s.counts.steps) r (omega (arith, F.traced))))
 
   going_kept : (s : State) → Fine n budget s → (t : State) (e : End) → Kept s t → Kept s (going e t s)
   going_kept s F t DONE k = k

@@ -80,7 +80,7 @@ play_on n budget (stepped r ∷ es) w a zero f q forms trace ea ef et =
     rw (noted_not budget r (state (counts_of a f) DONE forms trace) (omega arith)) (play_stopped n budget (counts_of a f) Spent forms trace es ∙ ahead_stop n a f forms trace SPENT)
 play_on n budget (stepped r ∷ es) w a (suc l) f q forms trace ea ef et =
     let p = put_length trace (4 * a) r (omega (arith, w.0)) in
-    rw (noted_there budget r (state (counts_of a f) DONE forms trace) (omega arith))
+    rw (noted_there budget r (state (counts_of a f) DONE forms trace) (λ e. omega arith))
     (play_on n budget es w.1 (suc a) l f q forms (put_at trace (4 * a) r) (omega arith) ef (omega arith) ∙ ahead_step n a f forms trace r w.0 (omega arith) (tally n l q es))
 
 -- from the beginning

@@ -52,7 +52,6 @@ impl Output<'_> {
     }
 
     // Writes a step into the trace and counts it, if the budget has one left: its rule, constraint, root concerned and children left.
-    #[tactic(auto, unfolding(crate::specs::State::with_step))]
     pub fn write_step(
         &mut self,
         budget: usize,

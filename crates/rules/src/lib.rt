@@ -31,7 +31,7 @@ pub struct Child(pub Literal, pub Literal, pub Literal);
 #[derive(Clone, Copy)]
 pub struct Denial(pub Child, pub Child, pub Child);
 
-// A rule of a constraint, by its number, and the root that it concerns.
+// A rule of a constraint, by its number, and the root that it concerns. The numbers are document 01's: a trace has them as bytes, their order is the order of work, and a constraint's rules are a range of them.
 #[derive(Clone, Copy)]
 pub struct Instance<'a> {
     pub constraint: Constraint<'a>,
@@ -66,7 +66,7 @@ pub fn span_of(l: &Constraint, split: bool) -> Range<u8>
     }
 }
 
-// Rules 5, 6, 8 to 11 and 13 to 18.
+// Rules 5, 6, 8 to 11 and 13 to 18, by number, as an instance has it.
 pub fn row_of(rule: u8, of: Operands) -> Row
     requires { HasRow rule of }
     ensures { result ≡ laid (sets of) (numbered rule) }
@@ -113,7 +113,7 @@ pub fn denial_of(of: Operands) -> Denial
     Denial(x, y, y)
 }
 
-// How many children a rule can have, any but 20.
+// How many children a rule can have, any but 20, by number, as an instance has it.
 pub fn count_of(rule: u8) -> usize
     ensures { result ≡ count_of rule }
 {

@@ -104,8 +104,8 @@ module _ (split : Bool) (n : ℕ) (bs ps rows : List ℕ) where
 -- ---- how the search goes
 
 -- at the first rule of the constraint whose turn it is
-pub rules_start : {bs : List ℕ} (tab : Table) (i : ℕ) {split : Bool} {first end : ℕ} {ps rows words : List ℕ} {l : Constraint} {r : result.Option Found} → r ≡ None → Opened bs tab → WordsOf (constraints_of (read bs)) words → Falls ps → i < tab.constraints
-    → Spanned split (kind_of (decoded l)) first end → Unpacked bs i l → AtRule split tab.terms bs ps rows i first end (get_or words i 0) l r
+pub rules_start : {bs : List ℕ} (tab : Table) (i : ℕ) {split : Bool} {first end : ℕ} {ps rows entries marks : List ℕ} {l : Constraint} {r : result.Option Found} → r ≡ None → Opened bs tab → WordsOf (constraints_of (read bs)) entries marks → Falls ps → i < tab.constraints
+    → Spanned split (kind_of (decoded l)) first end → Unpacked bs i l → AtRule split tab.terms bs ps rows i first end (get_or entries i 0) l r
 unfolding constraint_of
 rules_start {bs} tab i {split} {first} {end} {l = l} e o w f k p u =
     let q = p (constraint_of bs i) (ap kind_of u.is) in
@@ -120,7 +120,7 @@ rules_start {bs} tab i {split} {first} {end} {l = l} e o w f k p u =
         ends = q.1;
         in_terms = constraint_in bs tab i o k tab.terms most_sets (omega arith) s.1;
         unpacked = u;
-        entries = record { below = entries_below l u.handled; bits = λ h. w.entries i there h ∙ entries_by u h; small = w.small i there };
+        entries = record { below = entries_below l u.handled; bits = λ h. w.listed i there h ∙ entries_by u h; small = w.small i there };
       };
       begun = omega (arith, q.0);
       passed = λ b z k s h. absurd (omega (arith, q.0, s.0));

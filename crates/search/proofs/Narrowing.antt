@@ -39,7 +39,7 @@ use Rattle.constraints.specs.Decoded.{decoded}
 use Rattle.fits.specs.Words.{unshared_of, rests_by, Shown}
 use Rattle.fits.proofs.RowBits.{known_in}
 use Rattle.fits.proofs.Listed.{covered}
-use Rattle.quiet.specs.Quiet.{Idle, Quiet, WordsOf, split_mark, mark_word}
+use Rattle.quiet.specs.Quiet.{Idle, Quiet, WordsOf, split_mark}
 use Rattle.quiet.proofs.Sayings.{holds, says, chosen_said}
 use Rattle.constraints.proofs.Decoding.{constraint_in}
 use Rattle.search.specs.Narrowed.{Narrows}
@@ -110,17 +110,17 @@ pub in_limits : (bs : List ℕ) (tab : Table) (i : ℕ) → Opened bs tab → i 
 in_limits bs tab i o t = let s = opened_sizes bs tab o in constraint_in bs tab i o t most_terms most_sets s.2 s.1
 
 -- what one test shows to be at rest is idle
-pub rest_idle : (bs : List ℕ) (tab : Table) (i : ℕ) {words ps lines : List ℕ} (split : Bool) (l : Coded) → Opened bs tab → i < tab.constraints → WordsOf (constraints_of (read bs)) words → constraint_of bs i ≡ decoded l → rests_by ps lines (get_or words i 0) split l ≡ true
+pub rest_idle : (bs : List ℕ) (tab : Table) (i : ℕ) {entries marks ps lines : List ℕ} (split : Bool) (l : Coded) → Opened bs tab → i < tab.constraints → WordsOf (constraints_of (read bs)) entries marks → constraint_of bs i ≡ decoded l → rests_by ps lines (get_or entries i 0) split l ≡ true
     → (n : ℕ) (b : Branch) → n ≤ most_terms → Shown b ps lines → Idle split n b (get_or (constraints_of (read bs)) i no_constraint)
-unfolding constraint_of unshared_of
-rest_idle bs tab i {words} {ps} {lines} split l o t w is rest n b few s =
-    subst (λ (x : Constraint). ConstraintIn most_terms most_sets x → ((h : ℕ) → bit word h ≡ any (λ (e : Term). eqb e.index h) (entries_of x)) → Idle split n b x) (sym is) (go l rest) (in_limits bs tab i o t) (w.entries i there)
+unfolding constraint_of
+rest_idle bs tab i {entries} {ps = ps} {lines} split l o t w is rest n b few s =
+    subst (λ (x : Constraint). ConstraintIn most_terms most_sets x → ((h : ℕ) → bit word h ≡ any (λ (e : Term). eqb e.index h) (entries_of x)) → Idle split n b x) (sym is) (go l rest) (in_limits bs tab i o t) (w.listed i there)
   where
     there : i < length (constraints_of (read bs))
     there = omega (arith, constraint_count bs tab o)
 
     word : ℕ
-    word = get_or words i 0
+    word = get_or entries i 0
 
     root : (x : ℕ) → root_at b x ≡ root_of ps x
     root x = root_is b x ∙ ap (λ (p : List ℕ). root_of p x) s.parents_are
@@ -158,14 +158,14 @@ quiet_within split n b {bs} {mask = mask} few w s q i l z = go (bit mask i) refl
 pub narrows_all : (split : Bool) (bs ps lines : List ℕ) {mask kept : ℕ} → kept ≡ mask → Narrows split bs ps lines mask kept
 narrows_all split bs ps lines e = rw e (record { within = λ i y. y; idle = λ n b few s i l y z. clash y z })
 
-pub narrows_splits : {bs words : List ℕ} (ps lines : List ℕ) {split : Bool} (mask : ℕ) {kept : ℕ} → split ≡ true → WordsOf (constraints_of (read bs)) words → kept ≡ bit_and mask (get_or words (mark_word split_mark) 0) → Narrows split bs ps lines mask kept
-narrows_splits {bs} {words} ps lines mask q w e = rw (q, e) (record {
+pub narrows_splits : {bs entries marks : List ℕ} (ps lines : List ℕ) {split : Bool} (mask : ℕ) {kept : ℕ} → split ≡ true → WordsOf (constraints_of (read bs)) entries marks → kept ≡ bit_and mask (get_or marks split_mark 0) → Narrows split bs ps lines mask kept
+narrows_splits {bs} {marks = marks} ps lines mask q w e = rw (q, e) (record {
   within = λ i y. and_l (bit mask i) (bit last i) (sym (bit_of_and mask last i) ∙ y);
   idle = λ n b few s i l y z j v. clash (bit_of_and mask last i ∙ rw y (w.splits i l j v)) z;
 })
   where
     last : ℕ
-    last = get_or words (mark_word split_mark) 0
+    last = get_or marks split_mark 0
 
 -- one more, which is idle, is dropped
 pub narrows_one : {split : Bool} {bs ps lines : List ℕ} {mask kept : ℕ} (k : ℕ) → Narrows split bs ps lines mask kept → kept < 2 ^ 64 → ((n : ℕ) (b : Branch) → n ≤ most_terms → Shown b ps lines → Idle split n b (get_or (constraints_of (read bs)) k no_constraint)) → {one : ℕ} → one ≡ 2 ^ k → one < 2 ^ 64 → Narrows split bs ps lines mask (bit_and kept (2 ^ 64 - 1 - one))

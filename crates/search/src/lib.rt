@@ -16,7 +16,7 @@ use bits::{Ones, bit_at, low_bits};
 use branch::Branch;
 use constraints::decode;
 use fits::{fitting, rests};
-use marks::{Prepared, REST_WORD, SPLIT_WORD};
+use marks::{Prepared, REST, SPLIT};
 use rules::{Instance, span_of};
 use terms::Term;
 
@@ -42,11 +42,11 @@ fn looked_at(run: &Prepared, b: &Branch, scope: Scope) -> u64
 {
     let mut kept = scope.among;
     if scope.split {
-        kept &= run.words[SPLIT_WORD];
+        kept &= run.marks[SPLIT as usize];
     }
-    for n in Ones(kept & run.words[REST_WORD]) {
+    for n in Ones(kept & run.marks[REST as usize]) {
         let l = decode(&run.problem, n as usize);
-        if rests(b, run.words[n as usize], &l, scope.split) {
+        if rests(b, run.entries[n as usize], &l, scope.split) {
             kept &= !bit_at(n);
         }
     }
@@ -63,7 +63,7 @@ pub fn search<'a>(run: &'a Prepared, b: &Branch, scope: Scope) -> Option<Found<'
     'search: for n in Ones(looked) {
         let l = decode(&run.problem, n as usize);
         for rule in span_of(&l, scope.split) {
-            let fit = fitting(b, run.words[n as usize], &l, rule);
+            let fit = fitting(b, run.entries[n as usize], &l, rule);
             for h in Ones(fit) {
                 if h < run.problem.table.terms {
                     found = Some(Found {

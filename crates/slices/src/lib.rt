@@ -2,11 +2,13 @@
 #![tactic(auto)]
 
 ghost use Rattle.std.specs.Prelude.{◌≡◌, ◌+◌, ◌≤◌, ◌<◌, length};
+ghost use Rattle.std.specs.Range.{range_inclusive_start, range_inclusive_end};
 ghost use Rattle.calculus.specs.Limits.{most_terms};
 ghost use Rattle.calculus.specs.Lists.{up_from};
 ghost use Rattle.slices.specs.Bytes.{bytes_at, raised_at, raised_words, rises, put_at};
 
 use std::array;
+use std::ops::RangeInclusive;
 use terms::MOST_TERMS;
 
 // Two bytes, low first.
@@ -25,11 +27,11 @@ pub fn raised(part: &[u8], at: usize) -> u32
     (word(part, at) as u32 + 32768) % 65536
 }
 
-// Whether two-byte values are strictly ascending and, raised, from lo to hi.
-pub fn rising(part: &[u8], lo: u32, hi: u32) -> bool
-    ensures { result ≡ rises lo hi (raised_words part.now) }
+// Whether two-byte values are strictly ascending and, raised, in a range.
+pub fn rising(part: &[u8], range: RangeInclusive<u32>) -> bool
+    ensures { result ≡ rises (range_inclusive_start range) (range_inclusive_end range) (raised_words part.now) }
 {
-    let mut least = lo;
+    let (mut least, hi) = range.into_inner();
     for pair in part.as_chunks::<2>().0 {
         let value = raised(pair, 0);
         if value < least || hi < value {

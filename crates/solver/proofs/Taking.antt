@@ -153,9 +153,9 @@ module _ {bs : List ℕ} {tab : Table} {split : Bool} {b : Branch} {r : Found} {
     rowed = subst (λ (x : Asserted). Rowed (constants bs tab) x.branch) (sym e) (performed_rowed (constants bs tab) b s.sound.good s.sound.rowed a o);
   }
 
--- what an arm of a match on an act leaves is the act performed
-pub by_arm : (b : Branch) {d : Branch} {x : Bool} {a c : Act} {t : Asserted} → a ≡ c → t ≡ performed b c → d ≡ t.branch → x ≡ t.conflict → ◌≡◌ {A = Asserted} (record { branch = d; conflict = x }) (performed b a)
-by_arm b e f g h = rw (g, h) (f ∙ ap (performed b) (sym e))
+-- the branch and the conflict of an act performed, as one
+pub as_one : (b : Branch) {d : Branch} (a : Act) {x : Bool} → (d ≡ (performed b a).branch) × (x ≡ (performed b a).conflict) → ◌≡◌ {A = Asserted} (record { branch = d; conflict = x }) (performed b a)
+as_one b a e = rw (e.0, e.1) refl
 
 -- ---- what a search answers
 

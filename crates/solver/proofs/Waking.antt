@@ -33,7 +33,7 @@ use Rattle.branch.specs.Held.{held, Sound}
 use Rattle.branch.specs.Rows.{literals, literal_count}
 use Rattle.branch.proofs.Roots.{root_is}
 use Rattle.constraints.proofs.Decoding.{constraint_in}
-use Rattle.quiet.specs.Quiet.{Idle, Quiet, WordsOf, mark_word, pair_mark}
+use Rattle.quiet.specs.Quiet.{Idle, Quiet, WordsOf, pair_mark}
 use Rattle.quiet.proofs.Waking.{Watched, quiet_noted, quiet_merged}
 use Rattle.search.specs.declared.Found.{Found}
 use Rattle.search.specs.First.{first_place_of, IsFirst}
@@ -77,15 +77,15 @@ each_up f P k (suc n) e g = go (f k) refl (λ z. each_up f P (suc k) n (ap (λ (
 
 -- ---- an act
 
-module _ {n : ℕ} {ls : List Constraint} {words : List ℕ} (d : Watched n ls words) where
+module _ {n : ℕ} {ls : List Constraint} {entries marks : List ℕ} (d : Watched n ls entries marks) where
   -- what it wakes is there
-  woken_low : (a : Act) (w : ℕ) → Wakes words a w → (i : ℕ) → bit w i ≡ true → i < length ls
-  woken_low (Note h x y) w k i e = each_up (λ (m : ℕ). bit (literals x y) m && bit (get_or words (mark_word m) 0) i) (i < length ls) 0 literal_count (sym (k i) ∙ e) (λ m _ l z. d.words_are.low m (omega arith) i (and_r (bit (literals x y) m) (bit (get_or words (mark_word m) 0) i) z))
+  woken_low : (a : Act) (w : ℕ) → Wakes marks a w → (i : ℕ) → bit w i ≡ true → i < length ls
+  woken_low (Note h x y) w k i e = each_up (λ (m : ℕ). bit (literals x y) m && bit (get_or marks m 0) i) (i < length ls) 0 literal_count (sym (k i) ∙ e) (λ m _ l z. d.words_are.low m (omega arith) i (and_r (bit (literals x y) m) (bit (get_or marks m 0) i) z))
   woken_low (Merge lo hi) w k i e = d.words_are.low pair_mark (omega arith) i (sym (k i) ∙ e)
   woken_low Close w k i e = absurd (false≢true (sym (k i) ∙ e))
 
-  act_quiet : (split : Bool) (mask w : ℕ) {b : Branch} {cs : List Term} → Sound cs b → (a : Act) → Rooted b.parents a → Under n a → Wakes words a w → Quiet split n ls (held b) mask → Quiet split n ls (held (performed b a).branch) (bit_or mask w)
-  act_quiet split mask w s (Note h x y) r u k q = quiet_noted d split mask w s x y r.0 (root_is _ _ ∙ r.1) (λ m i l e z. k i ∙ some_up (λ (j : ℕ). bit (literals x y) j && bit (get_or words (mark_word j) 0) i) 0 m 16 (omega arith) (omega arith) (ap (λ (t : Bool). t && bit (get_or words (mark_word m) 0) i) e ∙ z)) q
+  act_quiet : (split : Bool) (mask w : ℕ) {b : Branch} {cs : List Term} → Sound cs b → (a : Act) → Rooted b.parents a → Under n a → Wakes marks a w → Quiet split n ls (held b) mask → Quiet split n ls (held (performed b a).branch) (bit_or mask w)
+  act_quiet split mask w s (Note h x y) r u k q = quiet_noted d split mask w s x y r.0 (root_is _ _ ∙ r.1) (λ m i l e z. k i ∙ some_up (λ (j : ℕ). bit (literals x y) j && bit (get_or marks j 0) i) 0 m 16 (omega arith) (omega arith) (ap (λ (t : Bool). t && bit (get_or marks m 0) i) e ∙ z)) q
   act_quiet split mask w s (Merge lo hi) r u k q = quiet_merged d split mask w s r.0 u (root_is _ _ ∙ r.2) (root_is _ _ ∙ r.3) (λ i e. k i ∙ e) q
   act_quiet split mask w s Close r u k q = λ i l e. q i l (wider_l mask w i e)
 
@@ -143,12 +143,12 @@ module _ {bs : List ℕ} {tab : Table} (o : Opened bs tab) {b : Branch} {wake ri
   narrowed_splits f = record { sound = y.sound; propagation = y.propagation; splits = f.quiet; wake_low = y.wake_low; ripe_low = λ i e. counted (f.low i e) }
 
   -- after an act
-  module _ {words : List ℕ} (k : WordsOf (constraints_in bs tab) words) where
-    watched : Watched tab.terms (constraints_in bs tab) words
+  module _ {entries marks : List ℕ} (k : WordsOf (constraints_in bs tab) entries marks) where
+    watched : Watched tab.terms (constraints_in bs tab) entries marks
     unfolding constraint_of
     watched = record { words_are = k; in_range = λ i l. constraint_in bs tab i o (counted l) tab.terms most_sets (omega arith) (opened_sizes bs tab o).1; few = (opened_sizes bs tab o).2 }
 
-    pub widened : {c : Asserted} (a : Act) (w : ℕ) → Rooted b.parents a → Under tab.terms a → Wakes words a w → c ≡ performed b a → Sound (constants bs tab) c.branch → Ready bs tab c.branch (bit_or wake w) (bit_or ripe w)
+    pub widened : {c : Asserted} (a : Act) (w : ℕ) → Rooted b.parents a → Under tab.terms a → Wakes marks a w → c ≡ performed b a → Sound (constants bs tab) c.branch → Ready bs tab c.branch (bit_or wake w) (bit_or ripe w)
     widened {c} a w r u x e s = record {
       sound = s;
       propagation = subst (λ (x : Asserted). Quiet false tab.terms (constraints_in bs tab) (held x.branch) (bit_or wake w)) (sym e) (act_quiet watched false wake w y.sound a r u x y.propagation);

@@ -20,18 +20,18 @@ use Rattle.search.specs.First.{first_place_of, candidate_at, spot, Located}
 use Rattle.step.specs.declared.Act.{Act}
 use Rattle.step.specs.declared.Act.TheVariants.{Note, Merge, Close}
 use Rattle.step.specs.Left.{LeftOf}
-use Rattle.quiet.specs.Quiet.{Quiet, pair_mark, mark_word}
+use Rattle.quiet.specs.Quiet.{Quiet, pair_mark}
 use Rattle.records.specs.State.{State, play, state_left, Fine}
 use Rattle.solver.specs.declared.FoundSplit.{FoundSplit}
 
 -- constraint i is woken by an act: by a note if it needs a literal of the masks, by a merge if two facts of one class can wake it
 abbrev pub woken_by : List ℕ → Act → ℕ → Bool
-woken_by words (Note h ins outs) i = any (λ (k : ℕ). bit (literals ins outs) k && bit (get_or words (mark_word k) 0) i) (up_from 0 literal_count)
-woken_by words (Merge lo hi) i = bit (get_or words (mark_word pair_mark) 0) i
-woken_by words Close i = false
+woken_by marks (Note h ins outs) i = any (λ (k : ℕ). bit (literals ins outs) k && bit (get_or marks k 0) i) (up_from 0 literal_count)
+woken_by marks (Merge lo hi) i = bit (get_or marks pair_mark 0) i
+woken_by marks Close i = false
 
 abbrev pub Wakes : List ℕ → Act → ℕ → Type 0
-Wakes words a word = (i : ℕ) → bit word i ≡ woken_by words a i
+Wakes marks a word = (i : ℕ) → bit word i ≡ woken_by marks a i
 
 -- the problem's terms, of which the constants are the lowest, and its constraints
 module _ (bs : List ℕ) (tab : Table) where

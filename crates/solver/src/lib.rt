@@ -9,7 +9,7 @@ ghost use Rattle.solver.specs.ComesTo.{Wakes, ComesTo, SplitComesTo, Begun, Read
 
 use bits::low_bits;
 use branch::Branch;
-use marks::{PAIR_WORD, Prepared, prepare};
+use marks::{PAIR, Prepared, prepare};
 use problem::Problem;
 use records::{Counts, Output, Stop};
 use search::{Found, Scope, search};
@@ -45,11 +45,11 @@ pub struct Ended {
 
 // The constraints, as bits, that an act wakes.
 fn wakes(run: &Prepared, a: Act) -> u64
-    ensures { Wakes run.now.words a result }
+    ensures { Wakes run.now.marks a result }
 {
     match a {
         Act::Note(_, x, y) => run.woken(x, y),
-        Act::Merge(_, _) => run.words[PAIR_WORD],
+        Act::Merge(_, _) => run.marks[PAIR as usize],
         Act::Close => 0,
     }
 }
@@ -75,21 +75,7 @@ fn work(run: &Run, next: &Branch, awake: Awake, out: &mut Output) -> Result<(), 
     ) {
         let place = &found.instance;
         let act = act_of(&at, place, 0);
-        // Written out, not by `perform`: so a branch is copied twice, and not three times.
-        let mut conflict = true;
-        match act {
-            Act::Note(h, x, y) => {
-                let then = at.note(h, x, y);
-                at = then.branch;
-                conflict = then.conflict;
-            }
-            Act::Merge(lo, hi) => {
-                let then = at.merge(lo, hi);
-                at = then.branch;
-                conflict = then.conflict;
-            }
-            Act::Close => {}
-        }
+        let conflict = perform(&mut at, act);
         out.write_step(
             run.budget,
             place.rule,
@@ -139,13 +125,14 @@ fn children(run: &Run, b: &Branch, split: &FoundSplit, out: &mut Output) -> Resu
         let turn = child_at(b, place, k, left);
         left = turn.left;
         if let Some(act) = turn.act {
-            let next = perform(*b, act);
+            let mut next = *b;
+            perform(&mut next, act);
             let more = wakes(&run.prepared, act);
             let awake = Awake {
                 wake: more,
                 ripe: split.found.left | more,
             };
-            work(run, &next.branch, awake, out)?;
+            work(run, &next, awake, out)?;
         }
     }
     Ok(())

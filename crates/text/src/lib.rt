@@ -7,6 +7,9 @@ ghost use Rattle.text.specs.Text.{decimal as Text·decimal, number as Text·numb
 
 use slices::put;
 
+// The two-byte words from here on are negative numbers.
+const FIRST_NEGATIVE: u64 = 32768;
+
 // A buffer, and where the text in it ends: each method writes there, and keeps the buffer. Who calls it sees to it that there is room.
 #[derive(Drop)]
 pub struct Text<'a> {
@@ -47,7 +50,7 @@ impl Text<'_> {
         ensures same { self.new.buffer.ghost_name ≡ self.old.buffer.ghost_name }
     {
         let n = x as u64;
-        if n < 32768 {
+        if n < FIRST_NEGATIVE {
             return self.decimal(n);
         }
         self.say(b"-");

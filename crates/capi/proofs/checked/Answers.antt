@@ -21,9 +21,9 @@ returns-in_default c =
 pub returns-in-Some-lowest : goal.returns-in-Some-lowest
 returns-in-Some-lowest c =
     let o = read_parsed c.args.problem.now _ c.in_ok-problem.ensures in
-    check_fails _ c.args.assignment.now c.in_ok-problem.problem o.0 o.1 o.2 c.in-Some.handed c.in-Some.ensures _ c.in-Some-lowest.ensures
+    rw c.from.ensures (check_fails _ c.args.assignment.now c.in_ok-problem.problem o.0 o.1 o.2 c.in-Some.handed c.in-Some.ensures _ c.in-Some-lowest.ensures)
 
 pub returns-in-None : goal.returns-in-None
 returns-in-None c =
     let o = read_parsed c.args.problem.now _ c.in_ok-problem.ensures in
-    check_holds _ c.args.assignment.now c.in_ok-problem.problem o.0 o.1 o.2 c.in-Some.handed c.in-Some.ensures c.in-None.ensures
+    rw c.from-in-None.ensures (check_holds _ c.args.assignment.now c.in_ok-problem.problem o.0 o.1 o.2 c.in-Some.handed c.in-Some.ensures c.in-None.ensures)

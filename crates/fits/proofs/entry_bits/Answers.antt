@@ -1,15 +1,13 @@
--- A turn gathers the bit of the next entry.
-use Rattle.std.proofs.Common.{◌<◌, arith}
+-- Each entry is a term below the limit, and the fold finds their bits.
+use Rattle.std.proofs.Common.{◌<◌, rules, ℕ}
+use Rattle.std.proofs.iter.Serving.{serving}
 use Rattle.calculus.specs.Limits.{most_terms}
 use Rattle.calculus.proofs.Sequences.{each_at}
-use Rattle.fits.proofs.Listed.{gather_start, gather_more}
+use Rattle.fits.proofs.Listed.{image_bits}
 use Rattle.fits.proofs.entry_bits.Goals as goal
 
-pub loop-e-init : goal.loop-e-init
-loop-e-init c = gather_start _ _
+pub fold-requires-clause-callable : goal.fold-requires-clause-callable
+fold-requires-clause-callable c = let w = λ (k d : ℕ). each_at (λ e. e < most_terms) c.args.list.now d c.requires k in grind serving
 
-pub loop-e-preserved : goal.loop-e-preserved
-loop-e-preserved c =
-    let list = c.args.list.now in
-    let v = c.loop-e in
-    gather_more _ list _ v.e-index _ (omega arith) (each_at (λ e. e < most_terms) list 0 c.requires v.e-index (omega arith)) c.bit_at-found.ensures v.invariant
+pub returns : goal.returns
+returns c = record { below = c.requires; bits = image_bits (λ e. e) _ _ (search rules); small = c.fold.type_inv }

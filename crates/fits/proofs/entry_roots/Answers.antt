@@ -1,14 +1,13 @@
--- A turn gathers the bit of the next entry's root.
-use Rattle.std.proofs.Common.{ℕ, ◌^◌, ◌<◌, ◌∙◌, ap, subst, arith}
+-- Each entry is a term below the limit, and the fold finds the bits of their roots.
+use Rattle.std.proofs.Common.{◌<◌, rules, ℕ}
+use Rattle.std.proofs.iter.Serving.{serving}
 use Rattle.calculus.specs.Limits.{most_terms}
-use Rattle.fits.proofs.Listed.{gather_start, gather_more}
+use Rattle.calculus.proofs.Sequences.{each_at}
+use Rattle.fits.proofs.Listed.{image_bits}
 use Rattle.fits.proofs.entry_roots.Goals as goal
 
-pub loop-e-init : goal.loop-e-init
-loop-e-init c = gather_start _ _
+pub fold-requires-clause-callable : goal.fold-requires-clause-callable
+fold-requires-clause-callable c = let w = λ (k d : ℕ). each_at (λ e. e < most_terms) c.args.list.now d c.requires.0 k in grind serving
 
-pub loop-e-preserved : goal.loop-e-preserved
-loop-e-preserved c =
-    let v = c.loop-e in
-    let r = c.root.ensures in
-    gather_more _ c.args.list.now _ v.e-index _ (omega arith) (subst (λ (h : ℕ). h < most_terms) r.0 r.1) (c.bit_at-found.ensures ∙ ap (λ (h : ℕ). 2 ^ h) r.0) v.invariant
+pub returns : goal.returns
+returns c = (c.fold.type_inv, image_bits _ _ _ (search rules))

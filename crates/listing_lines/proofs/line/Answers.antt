@@ -1,7 +1,5 @@
 -- Line 0 is the heading, and after the last there is nothing; any other is the line of record i - 1, which stands in the form buffer since it was counted.
 use Rattle.std.proofs.Common.{rules, refl, sym, ap, ◌∙◌, ◌≡◌, suc, ◌-◌, arith}
-use Rattle.calculus.specs.Problem.{term_count}
-use Rattle.calculus.specs.Forms.{record_length}
 use Rattle.listing_lines.specs.Listing.{heading}
 use Rattle.listing_lines.specs.Writing.{problem_in, line_at}
 use Rattle.text.proofs.Texts.{wrote_over}

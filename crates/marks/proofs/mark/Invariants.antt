@@ -3,4 +3,4 @@ use Rattle.marks.proofs.Marking.{Marking}
 use Rattle.marks.proofs.mark.Given as goal
 
 abbrev pub invariant-loop-k : goal.invariant-loop-k
-invariant-loop-k l = Marking l.literals l.i l.initial.words l.words l.k-iterator.0
+invariant-loop-k l = Marking l.literals l.i l.initial.marks l.marks l.k-iterator.0

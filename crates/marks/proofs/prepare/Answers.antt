@@ -11,8 +11,8 @@ loop-i-init c = fill_start _
 pub entry_bits-requires : goal.entry_bits-requires
 entry_bits-requires c = rw c.entries.ensures (entries_below _ c.decode-l.ensures.handled)
 
-pub bounds-words-n : goal.bounds-words-n
-bounds-words-n c = omega (arith, (opened_sizes _ _ c.args.problem.now.opened).0)
+pub bounds-entries-n : goal.bounds-entries-n
+bounds-entries-n c = omega (arith, (opened_sizes _ _ c.args.problem.now.opened).0)
 
 pub mark-requires : goal.mark-requires
 mark-requires c = (c.needed.ensures.small, omega (arith, (opened_sizes _ _ c.args.problem.now.opened).0))

@@ -3,4 +3,4 @@ use Rattle.marks.proofs.Marking.{Filled}
 use Rattle.marks.proofs.prepare.Given as goal
 
 abbrev pub invariant-loop-i : goal.invariant-loop-i
-invariant-loop-i l = Filled l.problem.bytes.now l.words l.i
+invariant-loop-i l = Filled l.problem.bytes.now l.entries l.marks l.i

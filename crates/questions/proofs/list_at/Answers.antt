@@ -15,13 +15,13 @@ returns-in_default-get c = list_cut _ _ _ c.in-len2-up.len_at_least _ refl (grin
 
 pub returns-then-all : goal.returns-then-all
 returns-then-all c =
-    let found = all_from_yields_List (λ e. ltb e c.args.names.now.nameable) _ _ c.all.result c.all.ensures.ran (YieldsList-from_slice c.in-Some.entries.now cc) (λ x b q k. search (rules, tests)) in
-    list_is _ _ _ c.in-len2-up.len_at_least _ refl c.in-Some.ensures.lookup.0.1 c.in-Some.entries.now c.in-Some.ensures.lookup.0.2 true true (lt-ltb _ _ c.if-set-names.true) (sym found ∙ c.if-all.true)
+    let found = all_from_yields_List (λ e. ltb e c.args.names.now.nameable) _ _ _ c.all.ensures.ran (YieldsList-from_slice c.in-Some.entries.now cc) (λ x b q k. search (rules, tests)) in
+    list_is _ _ _ c.in-len2-up.len_at_least _ refl c.in-Some.ensures.lookup.0.1 _ c.in-Some.ensures.lookup.0.2 true true (lt-ltb _ _ c.if-set-names.true) (sym found ∙ c.if-all.true)
 
 pub returns : goal.returns
 returns c = elim c.else-set-names.branch [
   | else-set-names-via-then-set-names+else-all w ↦
-      let found = all_from_yields_List (λ e. ltb e c.args.names.now.nameable) _ _ w.all.result w.all.ensures.ran (YieldsList-from_slice c.in-Some.entries.now cc) (λ x b q k. search (rules, tests)) in
-      list_is _ _ _ c.in-len2-up.len_at_least _ refl c.in-Some.ensures.lookup.0.1 c.in-Some.entries.now c.in-Some.ensures.lookup.0.2 true false (lt-ltb _ _ w.if-set-names.true) (sym found ∙ w.if-all.false)
-  | else-set-names-via-else-set-names w ↦ list_is _ _ _ c.in-len2-up.len_at_least _ refl c.in-Some.ensures.lookup.0.1 c.in-Some.entries.now c.in-Some.ensures.lookup.0.2 false _ (le-ltb _ _ w.if-set-names.false) refl
+      let found = all_from_yields_List (λ e. ltb e c.args.names.now.nameable) _ _ _ w.all.ensures.ran (YieldsList-from_slice c.in-Some.entries.now cc) (λ x b q k. search (rules, tests)) in
+      list_is _ _ _ c.in-len2-up.len_at_least _ refl c.in-Some.ensures.lookup.0.1 _ c.in-Some.ensures.lookup.0.2 true false (lt-ltb _ _ w.if-set-names.true) (sym found ∙ w.if-all.false)
+  | else-set-names-via-else-set-names w ↦ list_is _ _ _ c.in-len2-up.len_at_least _ refl c.in-Some.ensures.lookup.0.1 _ c.in-Some.ensures.lookup.0.2 false _ (le-ltb _ _ w.if-set-names.false) refl
 ]

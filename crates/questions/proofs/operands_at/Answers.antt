@@ -11,10 +11,10 @@ returns-in_default c = operands_short _ _ (grind (arith, c.in_default.ensures.lo
 
 pub returns-then-all : goal.returns-then-all
 returns-then-all c =
-    let found = all_from_yields_List (λ p. ltb p.0 p.1) c.all.new.self _ c.all.result c.all.ensures.ran (YieldsList-from_zip (YieldsList-from_slice c.in-Some.operands.now cc) (YieldsList-from_slice c.args.bounds.now cc)) (λ x b q k. search (rules, tests)) in
-    operands_are c.args.bounds.now c.args.bytes.now c.in-Some.ensures.lookup.0.1 c.in-Some.operands.now c.in-Some.ensures.lookup.0.2 true (sym found ∙ c.if-all.true)
+    let found = all_from_yields_List (λ p. ltb p.0 p.1) c.all.new.self _ _ c.all.ensures.ran (YieldsList-from_zip (YieldsList-from_slice c.in-Some.operands.now cc) (YieldsList-from_slice c.args.bounds.now cc)) (λ x b q k. search (rules, tests)) in
+    operands_are _ _ c.in-Some.ensures.lookup.0.1 _ c.in-Some.ensures.lookup.0.2 true (sym found ∙ c.if-all.true)
 
 pub returns : goal.returns
 returns c =
-    let found = all_from_yields_List (λ p. ltb p.0 p.1) c.all.new.self _ c.all.result c.all.ensures.ran (YieldsList-from_zip (YieldsList-from_slice c.in-Some.operands.now cc) (YieldsList-from_slice c.args.bounds.now cc)) (λ x b q k. search (rules, tests)) in
-    operands_are c.args.bounds.now c.args.bytes.now c.in-Some.ensures.lookup.0.1 c.in-Some.operands.now c.in-Some.ensures.lookup.0.2 false (sym found ∙ c.if-all.false)
+    let found = all_from_yields_List (λ p. ltb p.0 p.1) c.all.new.self _ _ c.all.ensures.ran (YieldsList-from_zip (YieldsList-from_slice c.in-Some.operands.now cc) (YieldsList-from_slice c.args.bounds.now cc)) (λ x b q k. search (rules, tests)) in
+    operands_are _ _ c.in-Some.ensures.lookup.0.1 _ c.in-Some.ensures.lookup.0.2 false (sym found ∙ c.if-all.false)

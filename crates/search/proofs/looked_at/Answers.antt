@@ -1,6 +1,7 @@
 -- It begins with the scope, for splits with those that have one; a constraint that the test shows at rest is idle, and dropped.
 use Rattle.std.proofs.Common.{arith, sym, ◌∙◌}
 use Rattle.calculus.proofs.Bools.{and_l}
+use Rattle.problem.proofs.Access.{opened_sizes}
 use Rattle.bits.proofs.Bits.{bit_of_and}
 use Rattle.bits.proofs.Taking.{takes_left}
 use Rattle.search.specs.Narrowed.{Narrows}
@@ -18,11 +19,8 @@ loop-n-init c =
     ] in
     rw c.into_iter-n-iterator.ensures.into_iter_gives (record { narrows = d; there = λ i e. c.requires.1 i (d.within i (and_l _ _ (sym (bit_of_and c.if-scope.kept _ i) ∙ e))) })
 
-pub rests-requires : goal.rests-requires
-rests-requires c =
-    let r = c.args.run.now.problem in
-    let t = c.loop-n.invariant.there c.in-Some.n c.in-Some.ensures.steps.set in
-    (c.requires.0, c.decode-l.ensures.handled.in_range)
+pub bounds-run-n : goal.bounds-run-n
+bounds-run-n c = omega (arith, c.loop-n.invariant.there c.in-Some.n c.in-Some.ensures.steps.set, (opened_sizes _ _ c.args.run.now.problem.opened).0)
 
 pub loop-n-preserved-then-rests : goal.loop-n-preserved-then-rests
 loop-n-preserved-then-rests c =

@@ -17,6 +17,9 @@ loop-rule-init c =
 pub search-preserved : goal.search-preserved
 search-preserved c = next_constraint c.search.invariant c.in-Some.ensures.steps c.loop-rule.invariant (omega (arith, c.in-None-rule.ensures.steps.1.0))
 
+pub bounds-run-n : goal.bounds-run-n
+bounds-run-n c = omega (arith, c.search.invariant.there c.in-Some.n c.in-Some.ensures.steps.set, (opened_sizes _ _ c.args.run.now.problem.opened).0)
+
 pub fitting-fit-requires : goal.fitting-fit-requires
 fitting-fit-requires c =
     let t = c.in-Some-rule.ensures.steps in

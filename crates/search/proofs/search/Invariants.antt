@@ -7,7 +7,7 @@ abbrev pub invariant-search : goal.invariant-search
 invariant-search l = AtMask l.scope.split l.run.problem.table.terms l.run.problem.bytes.now l.b.parents l.b.rows l.run.problem.table.constraints l.looked l.n-iterator.0 l.found
 
 abbrev pub invariant-loop-rule : goal.invariant-loop-rule
-invariant-loop-rule l = AtRule l.scope.split l.run.problem.table.terms l.run.problem.bytes.now l.b.parents l.b.rows l.n l.rule-iterator.start l.rule-iterator.end (get_or l.run.words l.n 0) l.l l.found
+invariant-loop-rule l = AtRule l.scope.split l.run.problem.table.terms l.run.problem.bytes.now l.b.parents l.b.rows l.n l.rule-iterator.start l.rule-iterator.end (get_or l.run.entries l.n 0) l.l l.found
 
 abbrev pub invariant-loop-h : goal.invariant-loop-h
 invariant-loop-h l = AtRoot l.scope.split l.run.problem.table.terms l.run.problem.bytes.now l.b.parents l.b.rows l.n l.rule l.h-iterator.0 l.found

@@ -1,17 +1,14 @@
 -- The two workers meet their contracts together: each step of the run is the calculus's, by what the search and the step's act say.
-use Rattle.std.proofs.Common.{◌≡◌, ◌∙◌, sym, subst, refl, arith, ℕ}
+use Rattle.std.proofs.Common.{◌∙◌, refl, arith, ℕ}
 use Rattle.std.proofs.lemmas.Result.{err_from_is_err_and}
-use Rattle.branch.specs.declared.Asserted.{Asserted}
-use Rattle.step.specs.declared.Act.{Act}
-use Rattle.step.specs.Acts.{performed, Rooted}
-use Rattle.solver.specs.ComesTo.{Wakes}
+use Rattle.step.specs.Acts.{Rooted}
 use Rattle.solver.proofs.Opening.{terms_few, shows}
 use Rattle.solver.proofs.Waking.{narrowed, narrowed_splits, quieted, widened}
-use Rattle.solver.proofs.Taking.{taking, told, is_placed, first_there, somewhere, not_20, inferred, by_arm, low_act, child_sound, child_less}
+use Rattle.solver.proofs.Taking.{taking, told, is_placed, first_there, somewhere, not_20, inferred, as_one, low_act, child_sound, child_less}
 use Rattle.solver.proofs.Settling.{reached_start, reached_again, step_goes, step_begun, line}
 use Rattle.solver.proofs.Workers.{rooted, keepable, split_next, splitting, split_taking, works_form, works_stopped, works_closed, works_split, worked_begin, worked_done, worked_skip, act_rooted, made, opens, worked_next, worked_stop}
 use Rattle.solver.proofs.+children_work.Goals as goal
-use Rattle.solver.proofs.+children_work.Goals.{children-in-Some+in_ok-work, children-in_default, work-in-Note, work-in-Merge, work-in-Close, work-After-act_of-act, work-Joined-act}
+use Rattle.solver.proofs.+children_work.Goals.{children-in-Some+in_ok-work, children-in_default, work-After-act_of-act}
 
 -- ---- the children of a split
 
@@ -35,11 +32,11 @@ children-work-requires t c =
     let v = c.loop-k.invariant.worked in
     let l = rw c.slots-k-end.ensures at c.loop-k-test.true in
     let u = c.child_at-turn.ensures in
-    let m = made s v l u.0 c.in-Some.is c.perform-next.ensures in
-    let x = opens s v l u.0 c.in-Some.is c.perform-next.ensures in (
+    let m = made s v l u.0 c.in-Some.is (as_one _ _ c.perform.ensures) in
+    let x = opens s v l u.0 c.in-Some.is (as_one _ _ c.perform.ensures) in (
       omega (arith, child_less s m x, c.decreases),
       (
-        widened p.problem.opened q.0.ready p.words_are _ _ (act_rooted s v l u.0 c.in-Some.is c.perform-next.ensures) (low_act s _ (rw c.in-Some.is at u.1)) c.wakes-more.ensures c.perform-next.ensures (child_sound s m x),
+        widened p.problem.opened q.0.ready p.words_are _ _ (act_rooted s v l u.0 c.in-Some.is (as_one _ _ c.perform.ensures)) (low_act s _ (rw c.in-Some.is at u.1)) c.wakes-more.ensures (as_one _ _ c.perform.ensures) (child_sound s m x),
         v.begun,
       ),
     )
@@ -48,7 +45,7 @@ pub children-returns-in_err-work-clause-comes_to : goal.children-returns-in_err-
 children-returns-in_err-work-clause-comes_to t c =
     let s = split_taking c.args.run.now.prepared.problem.opened c.requires.0 in
     let p = err_from_is_err_and c.from_residual.result c.from_residual.ensures.1 in
-    rw (p.1, p.2) (worked_stop s c.loop-k.invariant.worked (rw c.slots-k-end.ensures at c.loop-k-test.true) c.child_at-turn.ensures.0 c.in-Some.is c.perform-next.ensures _ _ _ _ c.in_err-work.ensures.comes_to)
+    rw (p.1, p.2) (worked_stop s c.loop-k.invariant.worked (rw c.slots-k-end.ensures at c.loop-k-test.true) c.child_at-turn.ensures.0 c.in-Some.is (as_one _ _ c.perform.ensures) _ _ _ _ c.in_err-work.ensures.comes_to)
 
 pub children-loop-k-preserved : goal.children-loop-k-preserved
 children-loop-k-preserved t c =
@@ -57,7 +54,7 @@ children-loop-k-preserved t c =
     let l = rw c.slots-k-end.ensures at c.loop-k-test.true in
     let u = c.child_at-turn.ensures.0 in
     elim c.match-turn.branch [
-      | children-in-Some+in_ok-work w ↦ rw w.out-is (record { worked = worked_next s v.worked l u w.in-Some.is w.perform-next.ensures _ w.in_ok-work.ensures.comes_to; same = let z = w.in_ok-work.ensures.same_buffers in (z.0 ∙ v.same.0, z.1 ∙ v.same.1) })
+      | children-in-Some+in_ok-work w ↦ rw w.out-is (record { worked = worked_next s v.worked l u w.in-Some.is (as_one _ _ w.perform.ensures) _ w.in_ok-work.ensures.comes_to; same = let z = w.in_ok-work.ensures.same_buffers in (z.0 ∙ v.same.0, z.1 ∙ v.same.1) })
       | children-in_default w ↦ rw w.out-is (record { worked = worked_skip s v.worked l u w.in_default.is; same = v.same })
     ]
 
@@ -84,28 +81,14 @@ roots_in t c =
     let k = taking c.args.run.now.prepared.problem.opened y.sound tt (c.in-Some.ensures _ (shows y.sound) y.propagation) in
     (c.act_of-act.ensures.0 _ (is_placed k) (first_there k)).rooted
 
-pub work-note-then-requires : goal.work-note-then-requires
-work-note-then-requires t c = (subst (Rooted c.loop-found.at.parents) c.in-Note.is (roots_in t (goal.at.work-note-then-requires t c).After-act_of-act)).0
-
-pub work-merge-then-requires : goal.work-merge-then-requires
-work-merge-then-requires t c =
-    let r = subst (Rooted c.loop-found.at.parents) c.in-Merge.is (roots_in t (goal.at.work-merge-then-requires t c).After-act_of-act) in
-    (omega (arith, r.0, r.1), r.1)
-
--- where the arms meet the act is as it was, and it has been performed
-acted : (t : ℕ) (c : work-Joined-act t) → (c.match-act.act ≡ c.act_of-act.result) × ◌≡◌ {A = Asserted} (record { branch = c.match-act.at; conflict = c.match-act.conflict }) (performed c.loop-found.at c.act_of-act.result)
-acted t c =
-    elim c.match-act.branch [
-      | work-in-Note w ↦ (w.act-is ∙ sym w.in-Note.is, by_arm c.loop-found.at w.in-Note.is w.note-then.ensures w.at-is w.conflict-is)
-      | work-in-Merge w ↦ (w.act-is ∙ sym w.in-Merge.is, by_arm c.loop-found.at w.in-Merge.is w.merge-then.ensures w.at-is w.conflict-is)
-      | work-in-Close w ↦ (w.act-is, by_arm c.loop-found.at w.in-Close.is refl w.at-is w.conflict-is)
-    ]
+pub work-perform-conflict-requires : goal.work-perform-conflict-requires
+work-perform-conflict-requires t c = roots_in t (goal.at.work-perform-conflict-requires t c).After-act_of-act
 
 pub work-returns-in_err-write_step-clause-comes_to : goal.work-returns-in_err-write_step-clause-comes_to
 work-returns-in_err-write_step-clause-comes_to t c =
     let y = c.loop-found.invariant.ready in
     let k = taking c.args.run.now.prepared.problem.opened y.sound tt (c.in-Some.ensures _ (shows y.sound) y.propagation) in
-    let m = inferred k (c.act_of-act.ensures.0 _ (is_placed k) (first_there k)) (acted t (goal.at.work-returns-in_err-write_step-clause-comes_to t c).Joined-act).1 in
+    let m = inferred k (c.act_of-act.ensures.0 _ (is_placed k) (first_there k)) (as_one _ _ c.perform-conflict.ensures) in
     let p = err_from_is_err_and c.from_residual.result c.from_residual.ensures.1 in
     rw (p.1, p.2) (works_stopped c.loop-found.invariant.reached k (told k m _ refl) _ _ _ _ c.in_err-write_step.ensures.writes)
 
@@ -113,14 +96,14 @@ pub work-returns-then-conflict-clause-comes_to : goal.work-returns-then-conflict
 work-returns-then-conflict-clause-comes_to t c =
     let y = c.loop-found.invariant.ready in
     let k = taking c.args.run.now.prepared.problem.opened y.sound tt (c.in-Some.ensures _ (shows y.sound) y.propagation) in
-    let m = inferred k (c.act_of-act.ensures.0 _ (is_placed k) (first_there k)) (acted t (goal.at.work-returns-then-conflict-clause-comes_to t c).Joined-act).1 in
+    let m = inferred k (c.act_of-act.ensures.0 _ (is_placed k) (first_there k)) (as_one _ _ c.perform-conflict.ensures) in
     works_closed c.loop-found.invariant.reached k m c.if-conflict.true _ (rw c.if-conflict.true at c.in_ok-write_step.ensures.writes)
 
 pub work-loop-found-smaller : goal.work-loop-found-smaller
 work-loop-found-smaller t c =
     let y = c.loop-found.invariant.ready in
     let k = taking c.args.run.now.prepared.problem.opened y.sound tt (c.in-Some.ensures _ (shows y.sound) y.propagation) in
-    let m = inferred k (c.act_of-act.ensures.0 _ (is_placed k) (first_there k)) (acted t (goal.at.work-loop-found-smaller t c).Joined-act).1 in
+    let m = inferred k (c.act_of-act.ensures.0 _ (is_placed k) (first_there k)) (as_one _ _ c.perform-conflict.ensures) in
     child_less k m c.if-conflict.false
 
 pub work-loop-found-preserved : goal.work-loop-found-preserved
@@ -130,11 +113,10 @@ work-loop-found-preserved t c =
     let y = c.loop-found.invariant.ready in
     let f = c.in-Some.ensures _ (shows y.sound) y.propagation in
     let k = taking p.problem.opened y.sound tt f in
-    let d = acted t (goal.at.work-loop-found-preserved t c).Joined-act in
-    let m = inferred k (c.act_of-act.ensures.0 _ (is_placed k) (first_there k)) d.1 in
+    let m = inferred k (c.act_of-act.ensures.0 _ (is_placed k) (first_there k)) (as_one _ _ c.perform-conflict.ensures) in
     let a = c.act_of-act.result in record {
       reached = reached_again v (step_goes k m c.if-conflict.false v.begun (rw c.if-conflict.false at c.in_ok-write_step.ensures.writes));
-      ready = widened p.problem.opened (narrowed p.problem.opened y f) p.words_are a _ (roots_in t (goal.at.work-loop-found-preserved t c).After-act_of-act) (low_act k a c.act_of-act.ensures.1) (subst (λ (x : Act). Wakes p.words x c.wakes-more.result) d.0 c.wakes-more.ensures) d.1 (child_sound k m c.if-conflict.false);
+      ready = widened p.problem.opened (narrowed p.problem.opened y f) p.words_are a _ (roots_in t (goal.at.work-loop-found-preserved t c).After-act_of-act) (low_act k a c.act_of-act.ensures.1) c.wakes-more.ensures (as_one _ _ c.perform-conflict.ensures) (child_sound k m c.if-conflict.false);
       same = let x = c.loop-found.invariant.same in let z = c.in_ok-write_step.ensures.same_buffers in (z.0 ∙ x.0, z.1 ∙ x.1);
     }
 

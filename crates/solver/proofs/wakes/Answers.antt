@@ -6,4 +6,4 @@ use Rattle.solver.specs.ComesTo.{Wakes}
 use Rattle.solver.proofs.wakes.Goals as goal
 
 pub returns-in-Close : goal.returns-in-Close
-returns-in-Close c = subst (λ (x : Act). Wakes c.args.run.now.words x 0) (sym c.in-Close.is) bit_zero
+returns-in-Close c = subst (λ (x : Act). Wakes c.args.run.now.marks x 0) (sym c.in-Close.is) bit_zero

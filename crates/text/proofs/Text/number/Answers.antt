@@ -6,11 +6,11 @@ use Rattle.text.proofs.Text.number.Goals as goal
 pub decimal-requires : goal.decimal-requires
 decimal-requires c = omega (arith, c.requires, decimal_short c.args.x (omega arith))
 
-pub returns-then-n-lt32768-clause-wrote : goal.returns-then-n-lt32768-clause-wrote
-returns-then-n-lt32768-clause-wrote c = rw (small_number c.args.x (omega arith)) c.decimal.ensures.wrote
+pub returns-then-n-lt-FIRST_NEGATIVE-clause-wrote : goal.returns-then-n-lt-FIRST_NEGATIVE-clause-wrote
+returns-then-n-lt-FIRST_NEGATIVE-clause-wrote c = rw (small_number c.args.x (omega arith)) c.decimal.ensures.wrote
 
-pub returns-then-n-lt32768-clause-short : goal.returns-then-n-lt32768-clause-short
-returns-then-n-lt32768-clause-short c = omega (arith, c.decimal.ensures.wrote.ends, decimal_short c.args.x (omega arith))
+pub returns-then-n-lt-FIRST_NEGATIVE-clause-short : goal.returns-then-n-lt-FIRST_NEGATIVE-clause-short
+returns-then-n-lt-FIRST_NEGATIVE-clause-short c = omega (arith, c.decimal.ensures.wrote.ends, decimal_short c.args.x (omega arith))
 
 pub decimal-requires-2 : goal.decimal-requires-2
 decimal-requires-2 c =

@@ -1,12 +1,11 @@
--- The returns rest on constraint i failing, or on none being left.
-use Rattle.checker.proofs.Lowest.{passes_on, fails_here, none_fails}
+-- What was found is false, and all before it are true; or all are.
+use Rattle.std.proofs.Common.{rules, true, false}
+use borrow.Author.Tests.{tests}
+use Rattle.std.proofs.lemmas.Iterator.{first_from_Range}
+use Rattle.checker.proofs.Lowest.{Tests, first_false}
 use Rattle.checker.proofs.seen.Seen.lowest.Goals as goal
 
-pub returns-then-not-holds : goal.returns-then-not-holds
-returns-then-not-holds c = fails_here c.args.self.now _ c.loop-i.invariant c.loop-i-test.true _ c.holds.ensures c.if-not-holds.true
-
-pub loop-i-preserved : goal.loop-i-preserved
-loop-i-preserved c = passes_on c.args.self.now _ c.loop-i.invariant c.loop-i-test.true _ c.holds.ensures c.if-not-holds.false
-
 pub returns : goal.returns
-returns c = none_fails c.args.self.now _ c.loop-i.invariant c.loop-i-test.false
+returns c =
+    let s = c.args.self.now in
+    first_false s _ (first_from_Range _ _ _ _ (Tests s false) (Tests s true) c.find.ensures.ran (λ x q k. search (rules, tests)) (λ x q k. search (rules, tests)))

@@ -13,6 +13,11 @@ value-requires c =
     let k = known_of c.args.self.now in
     omega (arith, c.if-k-variables.true, k.constants, k.variables, k.terms)
 
+pub overflow_cast-constants-then-k-variables : goal.overflow_cast-constants-then-k-variables
+overflow_cast-constants-then-k-variables c =
+    let k = known_of c.args.self.now in
+    omega (arith, c.if-k-variables.true, k.constants, k.variables, k.terms, k.few_terms)
+
 pub returns-then-k-variables-clause-wrote : goal.returns-then-k-variables-clause-wrote
 returns-then-k-variables-clause-wrote c =
     let f = c.args.self.now in

@@ -10,7 +10,7 @@ use Rattle.listing_lines.proofs.form.Form.say_members.Goals as goal
 pub loop-t-init : goal.loop-t-init
 loop-t-init c =
     let a = c.args in
-    (omega arith, rw (no_members (problem_in a.self.now.problem.bytes.now) a.self.now.record.now a.set) (wrote_nothing _ _), c.say.ensures.same)
+    (omega arith, rw (no_members (problem_in a.self.now.problem.bytes.now) a.self.now.record.now a.set.0) (wrote_nothing _ _), c.say.ensures.same)
 
 pub say_member-requires : goal.say_member-requires
 say_member-requires c =
@@ -28,7 +28,7 @@ loop-t-preserved c =
     let x = c.say.ensures.wrote in
     let w = c.say_member.ensures in
     let l = wrote_length x (omega (arith, c.requires.1)) in
-    (omega (arith, v.0, w.short), member_step (problem_in a.self.now.problem.bytes.now) a.self.now.record.now a.set c.loop-t.t (omega (arith, c.requires.1, x.ends, l)) v.1 w.wrote, w.same ∙ v.2)
+    (omega (arith, v.0, w.short), member_step (problem_in a.self.now.problem.bytes.now) a.self.now.record.now a.set.0 c.loop-t.t (omega (arith, c.requires.1, x.ends, l)) v.1 w.wrote, w.same ∙ v.2)
 
 pub say-requires-2 : goal.say-requires-2
 say-requires-2 c =
@@ -47,7 +47,7 @@ returns-clause-wrote c =
     let k = known_of a.self.now in
     let l = wrote_length x (omega (arith, c.requires.1)) in
     let e : c.loop-t.t ≡ term_count (problem_in a.self.now.problem.bytes.now) = omega (arith, k.terms) in
-    rw (all_members (problem_in a.self.now.problem.bytes.now) a.self.now.record.now a.set, ← e) (wrote_more (omega (arith, c.requires.1)) x (wrote_more (omega (arith, c.requires.1, x.ends, l)) v.1 c.say-2.ensures.wrote))
+    rw (all_members (problem_in a.self.now.problem.bytes.now) a.self.now.record.now a.set.0, ← e) (wrote_more (omega (arith, c.requires.1)) x (wrote_more (omega (arith, c.requires.1, x.ends, l)) v.1 c.say-2.ensures.wrote))
 
 pub returns-clause-short : goal.returns-clause-short
 returns-clause-short c =

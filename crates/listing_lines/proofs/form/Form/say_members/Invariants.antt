@@ -8,5 +8,5 @@ use Rattle.listing_lines.proofs.form.Form.say_members.Given as goal
 abbrev pub invariant-loop-t : goal.invariant-loop-t
 invariant-loop-t l =
     (l.text.end ≤ l.start + 7 * l.t)
-    × Wrote l.initial.text.buffer.now l.start (members_text (problem_in l.self.problem.bytes.now) l.self.record.now l.set l.t) l.text.end l.text.buffer.now
+    × Wrote l.initial.text.buffer.now l.start (members_text (problem_in l.self.problem.bytes.now) l.self.record.now l.set.0 l.t) l.text.end l.text.buffer.now
     × (l.text.buffer.ghost_name ≡ l.fn.text.buffer.ghost_name)

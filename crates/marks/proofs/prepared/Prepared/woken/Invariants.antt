@@ -4,4 +4,4 @@ use Rattle.marks.proofs.Marking.{Gathering}
 use Rattle.marks.proofs.prepared.Prepared.woken.Given as goal
 
 abbrev pub invariant-loop-k : goal.invariant-loop-k
-invariant-loop-k l = Gathering l.self.words (literals l.ins l.outs) l.found l.k-iterator.0
+invariant-loop-k l = Gathering l.self.marks (literals l.ins l.outs) l.found l.k-iterator.0
