@@ -1,5 +1,5 @@
 -- The laws of laying out an assignment set by set: reading the whole is reading what is left.
-use mathlib.Core.Path.{◌≡◌, refl, sym, ap, ◌∙◌, subst}
+use mathlib.Core.Path.{◌≡◌, refl, sym, ap, ◌∙◌}
 use mathlib.Core.Bool.{Bool, true, false}
 use mathlib.Core.List.{List, [], ◌∷◌, ◌++◌, map, append_assoc, append-nil, map-append}
 use Prim.Native.Nat.{ℕ, zero, suc, ◌+◌, ◌*◌, ◌-◌, ◌<◌, ◌≤◌}
@@ -18,9 +18,8 @@ use Rattle.calculus.specs.Reading.{Parsed, parsed, refused, ◌>>=◌, ask, word
 use Rattle.calculus.specs.Encoding.{Handed}
 use Rattle.calculus.specs.Check.{count, numbers, member_lists}
 use Rattle.calculus.proofs.Words.{words_length}
-use Rattle.slices.specs.Bytes.{raised_words, rises, filled}
-use Rattle.slices.proofs.Parts.{AllBytes, take_bytes, filled_at}
-use Rattle.slices.proofs.RaisedWords.{ascending_rises}
+use Rattle.slices.specs.Bytes.{filled}
+use Rattle.slices.proofs.Parts.{filled_at}
 use Rattle.assignment.specs.declared.Assignment.{Assignment}
 use Rattle.assignment.specs.Laid.{read_handed, members_of, Pairs, Lays}
 
@@ -47,10 +46,10 @@ pub members_short : (n : ℕ) (bs : List ℕ) → length bs < 2 * n → members_
 unfolding members_of count ◌>>=◌
 members_short n bs h = rw (numbers_short n bs h)
 
--- a count and the bytes of as many members, which ascend where they rise, or not
-module _ (bs : List ℕ) (known : AllBytes bs) (n : ℕ) (rest part after : List ℕ) (e : bs ≡ n ∷ rest) (there : 2 * n ≤ length rest) (p : part ≡ take (2 * n) rest) (q : after ≡ drop (2 * n) rest) (t : Bool) (r : t ≡ rises 0 65535 (raised_words part)) where
+-- a count and the bytes of as many members, which ascend, or not
+module _ (bs : List ℕ) (n : ℕ) (rest part after : List ℕ) (e : bs ≡ n ∷ rest) (there : 2 * n ≤ length rest) (p : part ≡ take (2 * n) rest) (q : after ≡ drop (2 * n) rest) (t : Bool) (r : t ≡ ascending (words part)) where
   order : ascending (words (take (2 * n) rest)) ≡ t
-  order = let k : AllBytes (n ∷ rest) = subst AllBytes e known in ascending_rises (take (2 * n) rest) (take_bytes (2 * n) rest (λ i. k (suc i))) ∙ ap (λ (x : List ℕ). rises 0 65535 (raised_words x)) (sym p) ∙ sym r
+  order = ap (λ (x : List ℕ). ascending (words x)) (sym p) ∙ sym r
 
   pub members_unordered : t ≡ false → members_of bs ≡ refused 14
   unfolding members_of count ◌>>=◌ ask

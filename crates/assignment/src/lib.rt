@@ -5,7 +5,7 @@ ghost use Rattle.std.specs.Prelude.{◌≤◌};
 ghost use Rattle.calculus.specs.Limits.{most_sets};
 ghost use Rattle.assignment.specs.Laid.{Lays, MembersOf};
 
-use slices::rising;
+use slices::ascends;
 use terms::MOST_SETS;
 
 // The values of the variables, and of each set its members, two bytes each. Beyond the sets there are none: there is no heap, and the array is as long as the limit.
@@ -21,7 +21,7 @@ fn members_at(bytes: &[u8]) -> Option<(&[u8], &[u8])>
 {
     let (count, rest) = bytes.split_first()?;
     let (members, rest) = rest.split_at_checked(2 * *count as usize)?;
-    rising(members, 0..=65535).then_some((members, rest))
+    ascends(members).then_some((members, rest))
 }
 
 // Question 14: a count byte equal to the number of variables, a value each, then the sets; and no more.

@@ -16,7 +16,17 @@ use Rattle.calculus.specs.Invariants.{ConstraintIn}
 use Rattle.calculus.proofs.Bools.{and_r, or_none_l, or_none_r, imp_i, not_t, each_all, all_each, each_left, each_right, each_is_all, each_imp, each_map, map_each}
 use Rattle.calculus.proofs.Tables.{rows_add, negation_add}
 use Rattle.calculus.proofs.Asserting.{WellFormed, below, still, Ranged}
-use Rattle.calculus.proofs.RuleLaws.{adds_map, known_fact, over_each, each_swap}
+use Rattle.calculus.proofs.RuleLaws.{operand_in, adds_map, known_fact, over_each, each_swap}
+
+-- a literal as a fact of a term in range
+pub fact_in : {n m : ℕ} (h : Term) (s : Operand → SetVar) → h.index < n → ((o : Operand) → (s o).index < m) → (x : Literal) → Ranged n m (fact_of h s x)
+fact_in h s l q (R.In o) = (l, q o)
+fact_in h s l q (R.Out o) = (l, q o)
+
+-- a row of the tables at a term
+pub row_in : {n m : ℕ} (h : Term) (s : Operand → SetVar) → h.index < n → ((o : Operand) → (s o).index < m) → (r : Rule Literal) → Each (λ g. Each (Ranged n m) g) (at h s r).alternatives
+row_in {n} {m} h s l q r = each_map (λ g. Each (Ranged n m) g) (map (fact_of h s)) r.alternatives
+    (each_is_all (λ g. Each (Ranged n m) (map (fact_of h s) g)) (λ g. each_map (Ranged n m) (fact_of h s) g (each_is_all (λ x. Ranged n m (fact_of h s x)) (fact_in h s l q) g)) r.alternatives)
 
 -- keeping and telling apart lose nothing
 module _ {X : Type 0} (P : X → Type 0) (p : X → Bool) where
@@ -44,23 +54,13 @@ module _ (n : ℕ) (k : List Term) (m : ℕ) (b : Branch) (F : WellFormed n k b)
       → adds (lit_known (λ p. known b (In h (s p))) (λ p. known b (Out h (s p)))) r ≡ true → Tame (at h s r)
   at_tame h s l q r e = (
     adds_map (fact_of h s) (known b) r ∙ ap (λ (f : Literal → Bool). adds f r) (known_fact b h s) ∙ e,
-    each_map (λ g. Each (Ranged n m) g) (map (fact_of h s)) r.alternatives
-        (each_is_all (λ g. Each (Ranged n m) (map (fact_of h s) g)) (λ g. each_map (Ranged n m) (fact_of h s) g (each_is_all (λ x. Ranged n m (fact_of h s x)) in_range g)) r.alternatives),
+    row_in h s l q r,
   )
-    where
-      in_range : (x : Literal) → Ranged n m (fact_of h s x)
-      in_range (R.In p) = (l, q p)
-      in_range (R.Out p) = (l, q p)
-
-  picks : (A B C : SetVar) → (A.index < m) × (B.index < m) × (C.index < m) → (p : Operand) → (operand_of A B C p).index < m
-  picks A B C l R.A = l.0
-  picks A B C l R.B = l.1
-  picks A B C l R.C = l.2
 
   rows_tame : (rs : List (Rule Literal)) → ((i o : Operand → Bool) → all (adds (lit_known i o)) rs ≡ true) → (A B C : SetVar) → (A.index < m) × (B.index < m) × (C.index < m) → (h : Term) → Each (λ r. h.index < n → Tame (at h (operand_of A B C) r)) rs
   rows_tame rs add A B C l h =
       each_imp (λ r. adds (lit_known (λ p. known b (In h (operand_of A B C p))) (λ p. known b (Out h (operand_of A B C p)))) r ≡ true) (λ r. h.index < n → Tame (at h (operand_of A B C) r)) rs
-      (λ r e q. at_tame h (operand_of A B C) q (picks A B C l) r e)
+      (λ r e q. at_tame h (operand_of A B C) q (operand_in (λ (X : SetVar). X.index < m) l) r e)
       (each_all (adds (lit_known (λ p. known b (In h (operand_of A B C p))) (λ p. known b (Out h (operand_of A B C p))))) rs
       (add (λ p. known b (In h (operand_of A B C p))) (λ p. known b (Out h (operand_of A B C p)))))
 

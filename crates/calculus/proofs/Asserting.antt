@@ -18,10 +18,10 @@ use Rattle.calculus.specs.Lists.{bit, any}
 use Rattle.calculus.specs.Meaning.{Valuation}
 pub use Rattle.calculus.specs.Order.{Ranged}
 pub use Rattle.calculus.specs.Invariants.{WellFormed, Is}
-use Rattle.calculus.specs.Branch.{Branch, walk, root_at, inside, outside, Fact, In, Out, Same, known, add_inside, add_outside, merge, torn, conflict_if, assert}
+use Rattle.calculus.specs.Branch.{Branch, root_at, inside, outside, Fact, In, Out, Same, known, add_inside, add_outside, merge, torn, conflict_if, assert}
 use Rattle.calculus.proofs.Bools.{and_l, and_r, or_cases, or_l, or_r, not_t, not_f, clash}
 use Rattle.calculus.proofs.Masks.{bit_of_and, bit_pow, bit_zero, some_bit, add_at}
-use Rattle.calculus.proofs.Walk.{moved, moved_hi, moved_other, walk_le, walk_root, root_walk, walk_set}
+use Rattle.calculus.proofs.Walk.{moved, moved_hi, moved_other, walk_le, root_walk, root_root, walk_set}
 use Rattle.calculus.proofs.Truth.{eq_z_eq, eq_eq_z, has, truth, Sat, Distinct}
 
 -- ---- what add_inside, add_outside and merge do
@@ -65,8 +65,7 @@ module _ (n : ℕ) (k : List Term) (b : Branch) (F : WellFormed n k b) where
   below t = walk_le b.parents F.falls t t
 
   pub still : (t : ℕ) → root_at b (root_at b t) ≡ root_at b t
-  unfolding root_at
-  still t = walk_root b.parents F.falls (walk t b.parents t) (root_walk b.parents F.falls t)
+  still t = root_root b F.falls t
 
   pub root : (t : ℕ) → root_at b t ≡ t → get_or b.parents t t ≡ t
   unfolding root_at

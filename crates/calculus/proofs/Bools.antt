@@ -99,6 +99,14 @@ module _ {A : Type 0} where
   all_each p [] e = refl
   all_each p (x ∷ xs) e = and_i e.0 (all_each p xs e.1)
 
+  pub any_imp : (p q : A → Bool) (xs : List A) → ((x : A) → p x ≡ true → q x ≡ true) → any p xs ≡ true → any q xs ≡ true
+  any_imp p q [] f e = e
+  any_imp p q (x ∷ xs) f e = go (or_cases (p x) (any p xs) e) (any_imp p q xs f)
+    where
+      go : (p x ≡ true) ⊎ (any p xs ≡ true) → (any p xs ≡ true → any q xs ≡ true) → (q x || any q xs) ≡ true
+      go (inl k) ih = or_l (any q xs) (f x k)
+      go (inr k) ih = or_r (q x) (ih k)
+
   -- what a search finds, and what it leaves
   first_none_step : (p : A → Bool) (x : A) (xs : List A) → (first p xs ≡ none → Each (λ x. p x ≡ false) xs) → (t : Bool) → p x ≡ t → first p (x ∷ xs) ≡ none → (p x ≡ false) × Each (λ x. p x ≡ false) xs
   first_none_step p x xs ih true q e = let z : ◌≡◌ {A = Option A} (some x) none = rw (q, first) at e in let w : false ≡ true = cc in absurd (false≢true w)

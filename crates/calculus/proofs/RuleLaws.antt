@@ -19,6 +19,12 @@ use Rattle.calculus.proofs.Tables.{lit_true, rows_sound, negation_sound}
 use Rattle.calculus.proofs.Truth.{eq_z, eq_z_eq, eq_eq_z, has, has_in, in_has, relates_test, truth, Sat}
 use Rattle.calculus.proofs.Asserting.{WellFormed, still, same_num}
 
+-- what holds of three operands
+pub operand_in : {X : Type 0} (P : X → Type 0) {A B C : X} → P A × P B × P C → (o : Operand) → P (operand_of A B C o)
+operand_in P l R.A = l.0
+operand_in P l R.B = l.1
+operand_in P l R.C = l.2
+
 -- ---- a row at a term is the row
 
 module _ {F G : Type 0} (f : F → G) (p : G → Bool) where

@@ -11,7 +11,7 @@ use lib.ListN.{length, get_or, set}
 use lib.Seq.{get_or-set_same, get_or-set_other}
 use lib.Dec.{eqb}
 use borrow.Author.Tests.{eq-eqb, ne_eqb}
-use Rattle.calculus.specs.Branch.{walk}
+use Rattle.calculus.specs.Branch.{Branch, walk, root_at}
 use Rattle.calculus.specs.Invariants.{Falls}
 
 -- hi's class goes to lo's
@@ -61,6 +61,11 @@ module _ (js : List ℕ) where
 
     pub root_walk : (t : ℕ) → get_or js (walk t js t) (walk t js t) ≡ walk t js t
     root_walk t = enough t t (le_refl t)
+
+-- a root is its own root
+pub root_root : (b : Branch) → Falls b.parents → (t : ℕ) → root_at b (root_at b t) ≡ root_at b t
+unfolding root_at
+root_root b fall t = walk_root b.parents fall (walk t b.parents t) (root_walk b.parents fall t)
 
 -- the higher of two roots is merged to the lower
 module _ (js : List ℕ) (fall : Falls js) (lo hi : ℕ) (l : lo < hi) (h : hi < length js) (rl : get_or js lo lo ≡ lo) (rh : get_or js hi hi ≡ hi) where

@@ -1,4 +1,4 @@
-// The two calls for C, as include/fuselinda.h declares them. Each is capi's function, with its clauses: C can call neither a library's function nor a generic one.
+// The two calls for C, as include/fuselinda.h declares them. Each calls capi's function and has its clauses. They stand twice since today a crate is a library or a static library, and only a static library exports for C.
 #![tactic(auto)]
 
 ghost use Rattle.std.specs.Prelude.{◌≡◌};

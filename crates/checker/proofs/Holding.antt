@@ -31,7 +31,7 @@ use Rattle.checker.specs.Tested.{value_at, seen, entries_in}
 
 -- ---- the operands of a constraint are there
 
-module _ (s : Seen) (i : ℕ) (l : i < s.problem.table.constraints) where
+module _ (s : Seen) {i : ℕ} (l : i < s.problem.table.constraints) where
   abbrev tab : Table
   tab = s.problem.table
 
@@ -46,9 +46,9 @@ module _ (s : Seen) (i : ℕ) (l : i < s.problem.table.constraints) where
   constants_count = sym (ap (λ (t : Table). t.constants) shown.shows)
 
   -- of constraint i, which the code has decoded and knows to be k
-  pub named : (c : code.Constraint) → constraint_of s.problem.bytes.now i ≡ decoded c → (k : code.Constraint) → c ≡ k → Refers cs (tab.constants + tab.variables) tab.sets (decoded k)
+  pub named : {c k : code.Constraint} → constraint_of s.problem.bytes.now i ≡ decoded c → c ≡ k → Refers cs (tab.constants + tab.variables) tab.sets (decoded k)
   unfolding problem_table constraint_of constraints_of
-  named c e k f =
+  named {c} {k} e f =
       let r = shown in
       let q : get_or r.prob.constraints i no_constraint ≡ decoded c = rw r.reads at e in
       let n : tab.constraints ≡ length r.prob.constraints = ap (λ (t : Table). t.constraints) r.shows in
@@ -65,10 +65,10 @@ module _ (s : Seen) (i : ℕ) (l : i < s.problem.table.constraints) where
   below (x ∷ xs) w (suc k) d h = below xs w.1 k d (omega arith)
 
   -- a list's set and entries are there; an interval's entries are constants
-  pub list_there : (c : code.Constraint) → constraint_of s.problem.bytes.now i ≡ decoded c → (k : Entries) (A : codeSet.SetVar) (es : Bor (List ℕ)) → c ≡ Listed k A es → (A.0 < tab.sets) × All Below es.now
-  list_there c e Written A es f = let r = named c e (Listed Written A es) f in (r.0, below es.now r.1)
-  list_there c e (Interval x y) A es f =
-      let r = named c e (Listed (Interval x y) A es) f in
+  pub list_there : {c : code.Constraint} {k : Entries} {A : codeSet.SetVar} {es : Bor (List ℕ)} → constraint_of s.problem.bytes.now i ≡ decoded c → c ≡ Listed k A es → (A.0 < tab.sets) × All Below es.now
+  list_there {k = Written} {es = es} e f = let r = named e f in (r.0, below es.now r.1)
+  list_there {k = Interval x y} {es = es} e f =
+      let r = named e f in
       (r.0, below es.now (subst (Each (λ (t : Term). Below t.index)) (sym r.4) (terms_each (λ (t : Term). Below t.index) x.0 (suc y.0 - x.0) (λ t g h. omega (arith, r.1, r.2, constants_count)))))
 
 -- ---- the tests

@@ -1,8 +1,8 @@
 -- The numbers of a slice, two bytes each, pair by pair.
-use mathlib.Core.Path.{◌≡◌, refl, sym, ap, ap₂, ◌∙◌}
-use mathlib.Core.Bool.{Bool, true, false, ◌||◌, ◌&&◌}
-use mathlib.Core.List.{List, [], ◌∷◌, map}
-use Prim.Native.Nat.{ℕ, zero, suc, ◌+◌, ◌*◌, ◌/◌, ◌<◌}
+use mathlib.Core.Path.{◌≡◌, refl, sym, ap, ◌∙◌}
+use mathlib.Core.Bool.{Bool, true, false, ◌&&◌}
+use mathlib.Core.List.{List, ◌∷◌, map}
+use Prim.Native.Nat.{ℕ, ◌/◌, ◌<◌}
 use native.Mathlib.Omega.{arith}
 use mir.Syntax.{w16}
 use lib.ListN.{length}
@@ -13,43 +13,23 @@ use Rattle.std.specs.Int.{from_le_bytes}
 use Rattle.std.specs.List.{list_any, list_all}
 use Rattle.calculus.specs.Lists.{any, all}
 use Rattle.calculus.specs.Reading.{signed, words, eq_z}
-use Rattle.calculus.specs.Check.{has}
-use Rattle.calculus.proofs.Bools.{eqb_flip, all_map}
-use Rattle.slices.proofs.Parts.{AllBytes}
+use Rattle.calculus.proofs.Bools.{eqb_flip, any_map, all_map}
+use Rattle.slices.proofs.Parts.{of_pairs}
 use Rattle.slices.proofs.TwoBytes.{same_number}
 
-pair_is : (a b : ℕ) → from_le_bytes w16 (a ∷ b ∷ []) ≡ a + 256 * b
-pair_is a b = omega arith
+-- the number of a pair
+abbrev pub number_of : List ℕ → ℤ
+number_of m = signed (from_le_bytes w16 m)
 
-any_is : {A : Type 0} (p : A → Bool) (xs : List A) → list_any p xs ≡ any p xs
-any_is p xs = refl
+-- the numbers of the bytes are those of their pairs
+words_of_pairs : (n : ℕ) (bs : List ℕ) → length bs / 2 ≡ n → words bs ≡ map number_of (first_chunks 2 n bs)
+words_of_pairs = of_pairs number_of words refl (λ a. refl) (λ a b bs. ap (λ (x : ℕ). signed x ∷ words bs) (omega arith))
 
-all_is : {A : Type 0} (p : A → Bool) (xs : List A) → list_all p xs ≡ all p xs
-all_is p xs = refl
+pub any_in_pairs : (p : ℤ → Bool) (n : ℕ) (bs : List ℕ) → length bs / 2 ≡ n → list_any (λ m. p (number_of m)) (first_chunks 2 n bs) ≡ any p (words bs)
+any_in_pairs p n bs e = sym (ap (any p) (words_of_pairs n bs e) ∙ any_map p number_of (first_chunks 2 n bs))
 
--- the first n pairs of the bytes are all of them
-module _ where
-  pub words_of_pairs : (n : ℕ) (bs : List ℕ) → length bs / 2 ≡ n → words bs ≡ map (λ m. signed (from_le_bytes w16 m)) (first_chunks 2 n bs)
-  words_of_pairs zero [] e = refl
-  words_of_pairs zero (a ∷ []) e = refl
-  words_of_pairs zero (a ∷ b ∷ bs) e = absurd (omega arith)
-  words_of_pairs (suc n) [] e = absurd (omega arith)
-  words_of_pairs (suc n) (a ∷ []) e = absurd (omega arith)
-  words_of_pairs (suc n) (a ∷ b ∷ bs) e = ap₂ (λ (x : ℕ) (xs : List ℤ). signed x ∷ xs) (sym (pair_is a b)) (words_of_pairs n bs (omega arith))
-
-  pub has_in_pairs : (x : ℕ) → x < 65536 → (n : ℕ) (bs : List ℕ) → AllBytes bs → length bs / 2 ≡ n → list_any (λ m. eqb (from_le_bytes w16 m) x) (first_chunks 2 n bs) ≡ has (words bs) (signed x)
-  has_in_pairs x l zero [] k e = refl
-  has_in_pairs x l zero (a ∷ []) k e = refl
-  has_in_pairs x l zero (a ∷ b ∷ bs) k e = absurd (omega arith)
-  has_in_pairs x l (suc n) [] k e = absurd (omega arith)
-  has_in_pairs x l (suc n) (a ∷ []) k e = absurd (omega arith)
-  has_in_pairs x l (suc n) (a ∷ b ∷ bs) k e =
-      ap₂ (λ (s t : Bool). s || t)
-      (ap (λ (y : ℕ). eqb y x) (pair_is a b) ∙ eqb_flip (a + 256 * b) x ∙ sym (same_number x (a + 256 * b) l (omega (arith, k 0, k 1))))
-      (has_in_pairs x l n bs (λ i. k (suc (suc i))) (omega arith))
-
-  pub all_in_pairs : (p : ℤ → Bool) (n : ℕ) (bs : List ℕ) → length bs / 2 ≡ n → list_all (λ m. p (signed (from_le_bytes w16 m))) (first_chunks 2 n bs) ≡ all p (words bs)
-  all_in_pairs p n bs e = sym (ap (all p) (words_of_pairs n bs e) ∙ all_map p (λ m. signed (from_le_bytes w16 m)) (first_chunks 2 n bs))
+pub all_in_pairs : (p : ℤ → Bool) (n : ℕ) (bs : List ℕ) → length bs / 2 ≡ n → list_all (λ m. p (number_of m)) (first_chunks 2 n bs) ≡ all p (words bs)
+all_in_pairs p n bs e = sym (ap (all p) (words_of_pairs n bs e) ∙ all_map p number_of (first_chunks 2 n bs))
 
 -- a value is compared with a number
 pub same_value : (x v : ℕ) (y : ℤ) → x < 65536 → (signed v ≡ y) × (v < 65536) → eqb v x ≡ eq_z (signed x) y

@@ -17,7 +17,7 @@ use terms::{SetVar, Term};
 pub struct Seen<'a> {
     pub problem: Problem<'a>,
     pub handed: Assignment<'a>,
-    pub ghost valued: { length handed.values.now ≡ 2 * problem.table.variables },
+    pub ghost valued: { 2 * problem.table.variables ≤ length handed.values.now },
 }
 
 impl<'a> Seen<'a> {

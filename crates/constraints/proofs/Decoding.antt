@@ -9,7 +9,7 @@ use lib.Seq.{get_or-drop}
 use lib.IntN.{ℤ}
 use types.Run.{OneOf, miss}
 use Rattle.std.proofs.Common.{Bor}
-use Rattle.calculus.specs.Limits.{most_bytes, most_sets, most_constraints, most_terms}
+use Rattle.calculus.specs.Limits.{most_sets, most_constraints, most_terms}
 use Rattle.calculus.specs.Lists.{Each, up_from}
 use Rattle.calculus.specs.Terms.{Term, SetVar, term, set_var}
 use Rattle.calculus.specs.Relations as relations
@@ -134,11 +134,10 @@ up_part (suc n) (suc a) zero s t e l = absurd (omega arith)
 up_part (suc n) (suc a) (suc k) s t e l = up_part (suc n) a k (suc s) t (omega arith) (omega arith)
 
 -- the numbers from an interval's first entry to its last are its entries
-pub numbers_of : (i j : ℕ) (numbers : List ℕ) → numbers ≡ up_from 0 most_terms → i ≤ j → j < most_terms → (map term (take (j + 1 - i) (drop i numbers)) ≡ entries (term i) (term j)) × (length (take (j + 1 - i) (drop i numbers)) ≤ most_terms)
-numbers_of i j numbers m h l =
+pub numbers_of : (i j : ℕ) → i ≤ j → j < most_terms → (map term (take (j + 1 - i) (drop i (up_from 0 most_terms))) ≡ entries (term i) (term j)) × (length (take (j + 1 - i) (drop i (up_from 0 most_terms))) ≤ most_terms)
+numbers_of i j h l =
     let z : j + 1 - i ≡ suc j - i = omega arith in
-    let p : take (suc j - i) (drop i (up_from 0 most_terms)) ≡ up_from i (suc j - i) = up_part (suc j - i) i most_terms 0 i (omega (arith, h)) (omega (arith, h, l)) in
-    let e : take (j + 1 - i) (drop i numbers) ≡ up_from i (suc j - i) = rw (z, m, p) in
+    let e : take (j + 1 - i) (drop i (up_from 0 most_terms)) ≡ up_from i (suc j - i) = rw z (up_part (suc j - i) i most_terms 0 i (omega (arith, h)) (omega (arith, h, l))) in
     (ap (map term) e, omega (arith, ap length e, up_length i (suc j - i), l))
 
 -- a list in range has its set in range
@@ -184,10 +183,6 @@ module _ (bs : List ℕ) (i at : ℕ) (st : Stands bs i at) where
   here_length : length bs - at ≡ length (encode_constraint this) + length place.rest
   here_length = sym (length-drop at bs) ∙ ap length here ∙ length-append (encode_constraint this) place.rest
 
-  -- two operands are there
-  pub two_operands : (i < most_constraints) × (at + 2 < length bs) × (length bs ≤ most_bytes)
-  two_operands = (place.small, omega (arith, (kind_sizes this).2, here_length), place.short)
-
   abbrev prob : Problem
   prob = (opened bs st.tab st.opened).prob
 
@@ -213,9 +208,14 @@ module _ (bs : List ℕ) (i at : ℕ) (st : Stands bs i at) where
 
 -- ---- its bytes, from its kind byte on
 
-module _ (bs : List ℕ) (tab : Table) (i : ℕ) (o : Opened bs tab) (l : i < tab.constraints) (line : List ℕ) (e : line ≡ drop (line_of tab i).at bs) where
+pub record Begins (bs : List ℕ) (tab : Table) (i : ℕ) (line : List ℕ) : Type 0 where
+  pub opened : Opened bs tab
+  pub there : i < tab.constraints
+  pub from : line ≡ drop (line_of tab i).at bs
+
+module _ {bs : List ℕ} {tab : Table} {i : ℕ} {line : List ℕ} (s : Begins bs tab i line) where
   abbrev there : Stands bs i (line_of tab i).at
-  there = (stands_there bs tab i o l).1
+  there = (stands_there bs tab i s.opened s.there).1
 
   abbrev known : calculus.Constraint
   known = constraint_of bs i
@@ -224,7 +224,7 @@ module _ (bs : List ℕ) (tab : Table) (i : ℕ) (o : Opened bs tab) (l : i < ta
   rest = (place bs i (line_of tab i).at there).rest
 
   begins : line ≡ encode_constraint known ++ rest
-  begins = e ∙ here bs i (line_of tab i).at there
+  begins = s.from ∙ here bs i (line_of tab i).at there
 
   lengths : length line ≡ length (encode_constraint known) + length rest
   lengths = ap length begins ∙ length-append (encode_constraint known) rest
@@ -232,7 +232,7 @@ module _ (bs : List ℕ) (tab : Table) (i : ℕ) (o : Opened bs tab) (l : i < ta
   kind_byte : get_or line 0 0 ≡ kind_of known
   kind_byte =
       let z : (line_of tab i).at + 0 ≡ (line_of tab i).at = omega arith in
-      ap (λ (xs : List ℕ). get_or xs 0 0) e ∙ get_or-drop (line_of tab i).at bs 0 0 ∙ ap (λ (x : ℕ). get_or bs x 0) z ∙ kind_here bs i (line_of tab i).at there
+      ap (λ (xs : List ℕ). get_or xs 0 0) s.from ∙ get_or-drop (line_of tab i).at bs 0 0 ∙ ap (λ (x : ℕ). get_or bs x 0) z ∙ kind_here bs i (line_of tab i).at there
 
   -- its kind byte is a kind's
   pub kind_known : ¬ ((get_or line 0 0 ≡ 0) ⊎ (12 < get_or line 0 0))
@@ -251,9 +251,9 @@ module _ (bs : List ℕ) (tab : Table) (i : ℕ) (o : Opened bs tab) (l : i < ta
   pub reads_as : {k m : Kind} → code_of k ≡ get_or line 0 0 → k ≡ m → known ≡ of_kind (code_of m) (get_or line 1 0) (get_or line 2 0) (get_or line 3 0) (line_of tab i).witness.0 (entries_of known)
   reads_as {k} {m} c q =
       let b : kind_of known ≡ code_of m = sym kind_byte ∙ sym c ∙ ap code_of q in
-      let w : term (line_of tab i).witness.0 ≡ witness_of bs i = (stands_there bs tab i o l).2 in
+      let w : term (line_of tab i).witness.0 ≡ witness_of bs i = (stands_there bs tab i s.opened s.there).2 in
       let p = prob bs i (line_of tab i).at there in
-      let h = by_kind p.constants (nameable p) (set_count p) (line_of tab i).witness.0 rest known (refers bs i (line_of tab i).at there) (λ k A B C v z. w ∙ witness_is bs tab i o k A B C v z) in
+      let h = by_kind p.constants (nameable p) (set_count p) (line_of tab i).witness.0 rest known (refers bs i (line_of tab i).at there) (λ k A B C v z. w ∙ witness_is bs tab i s.opened k A B C v z) in
       rw (b, sym begins) at h
 
   pub kind_is : {k m : Kind} → code_of k ≡ get_or line 0 0 → k ≡ m → kind_of known ≡ code_of m

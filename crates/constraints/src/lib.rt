@@ -9,7 +9,7 @@ ghost use Rattle.constraints.specs.Decoded.{entries_in, Unpacked};
 
 use problem::Problem;
 use questions::Kind;
-use terms::{SetVar, Term};
+use terms::{MOST_TERMS, SetVar, Term};
 
 // The relations between sets, and those that a constraint can deny.
 #[derive(Clone, Copy)]
@@ -26,7 +26,7 @@ pub enum Negation {
     Unequal,
 }
 
-// Where the entries of a set are from: written in the problem, or the numbers from a first to a last.
+// Where the entries of a set are from: written in the problem, or the numbers from a first to a last. No code reads it: by it the contract says which constraint it is.
 #[derive(Clone, Copy)]
 pub enum Entries {
     Written,
@@ -61,19 +61,26 @@ impl<'a> Constraint<'a> {
     }
 }
 
+// The numbers of all terms, upward from 0.
+static NUMBERS: [u8; MOST_TERMS] = [
+    0, 1, 2, 3, 4, 5, 6, 7, 8, 9, 10, 11, 12, 13, 14, 15, 16, 17, 18, 19, 20, 21, 22, 23, 24, 25,
+    26, 27, 28, 29, 30, 31, 32, 33, 34, 35, 36, 37, 38, 39, 40, 41, 42, 43, 44, 45, 46, 47, 48, 49,
+    50, 51, 52, 53, 54, 55, 56, 57, 58, 59, 60, 61, 62, 63,
+];
+
 // The terms from a first to a last; none if the first is above.
-fn interval<'a>(problem: &'a Problem, first: Term, last: Term) -> &'a [u8]
+fn interval(first: Term, last: Term) -> &'static [u8]
     requires { first.0 ≤ last.0 → last.0 < most_terms }
     ensures { (map term result.now ≡ entries (term first.0) (term last.0)) × (length result.now ≤ most_terms) }
 {
     if last.0 < first.0 {
         return &[];
     }
-    &problem.numbers[first.0 as usize..last.0 as usize + 1]
+    &NUMBERS[first.0 as usize..last.0 as usize + 1]
 }
 
 // Constraint i. The entries of a list are a part of the problem, those of an interval a part of the numbers.
-pub fn decode<'a>(problem: &'a Problem, i: usize) -> Constraint<'a>
+pub fn decode<'a>(problem: &Problem<'a>, i: usize) -> Constraint<'a>
     requires { i < problem.now.table.constraints }
     ensures { Unpacked problem.now.bytes.now i result }
 {
@@ -103,7 +110,7 @@ pub fn decode<'a>(problem: &'a Problem, i: usize) -> Constraint<'a>
         Kind::Interval => {
             let first = Term(q);
             let last = Term(line[3]);
-            let entries = interval(problem, first, last);
+            let entries = interval(first, last);
             Constraint::Listed(Entries::Interval(first, last), a, entries)
         }
     }

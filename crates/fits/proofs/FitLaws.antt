@@ -45,7 +45,7 @@ use Rattle.rules.specs.declared.Denial.{Denial}
 use Rattle.rules.specs.declared.Row.{Row as Code}
 use Rattle.rules.specs.declared.Split.{Split}
 use Rattle.rules.specs.Rows.{numbered, sets, splitting, literal_number, laid, parted, denying}
-use Rattle.fits.specs.Words.{forced_word, divided_word, denied_word, met_word, LowChild, LowDenial, missed, OfRoots, ByEntries, Asked, Fits, FitsFor}
+use Rattle.fits.specs.Words.{forced_word, divided_word, denied_word, met_word, LowChild, LowDenial, missed, OfRoots, ByEntries, Looked, Asked, Fits, FitsFor}
 use Rattle.fits.proofs.TableTests.{row_of_relation, denied_row, forced_test, divided_test, denied_test}
 use Rattle.fits.proofs.Lowest.{at_one, first_map, map_map, first_range, single, one_fits, roots_fits}
 use Rattle.fits.proofs.RowBits.{known_in, known_out, applies_at, laid_low, parted_low, denying_low, forced_bits, divided_bits, met_bits, met_small, but_bits, but_three}
@@ -294,3 +294,14 @@ entries_low n (Listed (Interval x y) A es) c = each_term n es.now c.1
 
 pub entries_below : (l : Coded) → Handled l → Each (λ e. e < most_terms) (entries_in l)
 entries_below l h = entries_low most_terms l h.in_range
+
+-- what the test looks up is below the limits
+pub looks : (l : Coded) → Handled l → Looked l
+looks (Member t A) h = tt
+looks (Nonmember t A) h = tt
+looks (Equated t u) h = tt
+looks (Different t u) h = h.in_range
+looks (Related k s) h = tt
+looks (Negated k s w) h = tt
+looks (Listed Written A es) h = h.in_range.0
+looks (Listed (Interval x y) A es) h = h.in_range.0

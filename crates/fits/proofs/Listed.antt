@@ -1,22 +1,23 @@
 -- The roots of a list's entries, as the code finds them.
 use mathlib.Core.Path.{◌≡◌, refl, sym, ap, ap₂, ◌∙◌}
-use mathlib.Core.Logic.{◌⊎◌, inl, inr}
-use mathlib.Core.Bool.{Bool, true, false, ◌&&◌, ◌||◌, not, or-false, or_assoc}
-use mathlib.Core.List.{List, [], ◌∷◌}
+use mathlib.Core.Bool.{Bool, true, false, ◌&&◌, ◌||◌, not, cond, or-false, or_assoc}
+use mathlib.Core.List.{List, [], ◌∷◌, map}
 use Prim.Native.Nat.{ℕ, ◌-◌, ◌^◌, ◌<◌}
 use native.Mathlib.Omega.{arith}
-use lib.ListN.{drop}
 use lib.Dec.{eqb}
 use lib.Bits.{bit_and, bit_or, and_lt}
 use lib.Pow.{pow-lt}
 use borrow.Author.Tests.{eqb-true, eq-eqb}
 use Rattle.calculus.specs.Limits.{most_terms}
 use Rattle.calculus.specs.Lists.{any, bit}
-use Rattle.calculus.proofs.Bools.{or_l, or_r, or_cases, eqb_flip}
+use Rattle.calculus.proofs.Bools.{not_f, any_imp, eqb_flip}
 use Rattle.calculus.proofs.Masks.{bit_of_or, bit_pow, bit_zero}
 use Rattle.bits.proofs.Bits.{bit_without}
 use Rattle.branch.specs.Held.{root_of}
-use Rattle.std.specs.List.{fold}
+use Rattle.std.specs.List.{fold, find}
+use Rattle.std.specs.Option.{option_map_or}
+use Rattle.std.specs.Prelude as result
+use Rattle.std.specs.Prelude.{Some}
 use Rattle.fits.specs.Words.{missed, EntryBits, OfRoots, ByEntries}
 
 -- ---- the images of a list's entries, as bits: of `roots` the roots, of `entry_bits` the entries
@@ -32,29 +33,25 @@ module _ (f : ℕ → ℕ) where
   pub image_bits : (list : List ℕ) (w : ℕ) → w ≡ fold with_image 0 list → (h : ℕ) → bit w h ≡ any (λ (e : ℕ). eqb (f e) h) list
   image_bits list w g h = rw (g, from list 0 h, bit_zero h)
 
--- ---- the first entry whose class is not in a row, from place p on
+-- ---- the first root of an entry that is not in a row
 
-abbrev pub Missing : List ℕ → ℕ → List ℕ → ℕ → Type 0
-Missing ps row list p = missed ps row list ≡ missed ps row (drop p list)
+pub missed_found : (ps : List ℕ) (row : ℕ) (list : List ℕ) → missed ps row list ≡ option_map_or (λ (h : ℕ). 2 ^ h) (find (λ (h : ℕ). not (bit row h)) (map (root_of ps) list)) 0
+missed_found ps row [] = refl
+missed_found ps row (e ∷ es) = go (bit row (root_of ps e)) _ (missed_found ps row es)
+  where
+    go : (x : Bool) (r : result.Option ℕ) {m : ℕ} → m ≡ option_map_or (λ (h : ℕ). 2 ^ h) r 0 → cond x m (2 ^ root_of ps e) ≡ option_map_or (λ (h : ℕ). 2 ^ h) (cond (not x) (Some (root_of ps e)) r) 0
+    go true r i = i
+    go false r i = refl
 
 -- ---- rules 19 and 20
 
 -- what a has and b does not is nothing: b has all of a
 pub covered : (a b : ℕ) → a < 2 ^ 64 → b < 2 ^ 64 → bit_and a (2 ^ 64 - 1 - b) ≡ 0 → (h : ℕ) → bit a h ≡ true → bit b h ≡ true
-covered a b l m z h e = go (bit b h) (sym (ap (λ (x : Bool). x && not (bit b h)) e) ∙ sym (bit_without 64 a b h l m) ∙ ap (λ (n : ℕ). bit n h) z ∙ bit_zero h)
-  where
-    go : (x : Bool) → not x ≡ false → x ≡ true
-    go true q = refl
-    go false q = sym q
+covered a b l m z h e = not_f (bit b h) (sym (ap (λ (x : Bool). x && not (bit b h)) e) ∙ sym (bit_without 64 a b h l m) ∙ ap (λ (n : ℕ). bit n h) z ∙ bit_zero h)
 
 -- a root that is an entry is an entry's root
 entry_root : (ps : List ℕ) (h : ℕ) → root_of ps h ≡ h → (es : List ℕ) → any (λ (e : ℕ). eqb e h) es ≡ true → any (λ (e : ℕ). eqb (root_of ps e) h) es ≡ true
-entry_root ps h r [] t = t
-entry_root ps h r (e ∷ es) t = go (or_cases (eqb e h) (any (λ (e : ℕ). eqb e h) es) t) (entry_root ps h r es)
-  where
-    go : (eqb e h ≡ true) ⊎ (any (λ (e : ℕ). eqb e h) es ≡ true) → (any (λ (e : ℕ). eqb e h) es ≡ true → any (λ (e : ℕ). eqb (root_of ps e) h) es ≡ true) → (eqb (root_of ps e) h || any (λ (e : ℕ). eqb (root_of ps e) h) es) ≡ true
-    go (inl q) ih = or_l (any (λ (e : ℕ). eqb (root_of ps e) h) es) (eq-eqb (root_of ps e) h (ap (root_of ps) (eqb-true e h q) ∙ r))
-    go (inr q) ih = or_r (eqb (root_of ps e) h) (ih q)
+entry_root ps h r es = any_imp (λ e. eqb e h) (λ e. eqb (root_of ps e) h) es (λ e q. eq-eqb (root_of ps e) h (ap (root_of ps) (eqb-true e h q) ∙ r))
 
 module _ (ps : List ℕ) (row : ℕ) (list : List ℕ) (j word : ℕ) (en : EntryBits list word) (x : ℕ) (is : x ≡ row) (l : x < 2 ^ 64) where
   -- a root in the set that is an entry has an entry in its class

@@ -19,7 +19,7 @@ use Rattle.calculus.specs.Branch as calculus
 use Rattle.calculus.specs.Search.{fact_of, at}
 use Rattle.calculus.proofs.Masks.{bit_of_or, bit_of_and, bit_pow}
 use Rattle.calculus.specs.Relations.{operand_of}
-use Rattle.calculus.proofs.RuleLaws.{applies_map}
+use Rattle.calculus.proofs.RuleLaws.{operand_in, applies_map}
 use Rattle.bits.proofs.Bits.{bit_without}
 use Rattle.branch.specs.Rows.{literal_known, RowsOf, literal_count}
 use Rattle.terms.specs.declared.SetVar.{SetVar as SetIndex}
@@ -63,9 +63,7 @@ module _ (A B C : ℕ) (low : (A < most_sets) × (B < most_sets) × (C < most_se
   S = operand_of A B C
 
   operand_low : (p : Operand) → S p < most_sets
-  operand_low R.A = low.0
-  operand_low R.B = low.1
-  operand_low R.C = low.2
+  operand_low = operand_in (λ k. k < most_sets) low
 
   pub number_low : (l : Literal) → literal_number S l < literal_count
   number_low (R.In p) = omega (arith, operand_low p)

@@ -86,6 +86,16 @@ pub record ByEntries (parents : List ℕ) (row : ℕ) (list : List ℕ) (j w : �
 abbrev pub unshared_of : List ℕ → ℕ → Bool → SetVar → ℕ
 unshared_of rows entries split a = cond split (bit_and (get_or rows a.0 0) (2 ^ 64 - 1 - entries)) (bit_and entries (2 ^ 64 - 1 - get_or rows a.0 0))
 
+-- what the test for that looks up is below the limits
+abbrev pub Looked : Coded → Type 0
+Looked (Member t A) = Unit {0}
+Looked (Nonmember t A) = Unit {0}
+Looked (Same t u) = Unit {0}
+Looked (Different t u) = (t.0 < most_terms) × (u.0 < most_terms)
+Looked (Related k s) = Unit {0}
+Looked (Negated k s w) = Unit {0}
+Looked (Listed k A es) = A.0 < most_sets
+
 -- one test shows a constraint idle
 abbrev pub rests_by : (parents rows : List ℕ) → ℕ → Bool → Coded → Bool
 rests_by parents rows entries split (Member t A) = false

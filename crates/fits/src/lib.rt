@@ -5,10 +5,9 @@ ghost use Rattle.std.specs.Prelude.{◌≡◌, [], ◌^◌, ◌<◌};
 ghost use Rattle.std.specs.Int.Bits.{bit_and};
 ghost use Rattle.calculus.specs.Limits.{most_sets, most_terms};
 ghost use Rattle.calculus.specs.Lists.{Each};
-ghost use Rattle.calculus.specs.Invariants.{Falls, ConstraintIn};
+ghost use Rattle.calculus.specs.Invariants.{Falls};
 ghost use Rattle.branch.specs.Held.{root_of};
-ghost use Rattle.constraints.specs.Decoded.{decoded};
-ghost use Rattle.fits.specs.Words.{unshared_of, rests_by, Low, row_at, LowRow, LowSplit, LowChild, LowDenial, forced_word, divided_word, met_word, denied_word, RootBits, missed, EntryBits, ByEntries, Asked, FitsFor};
+ghost use Rattle.fits.specs.Words.{unshared_of, rests_by, Low, row_at, LowRow, LowSplit, LowChild, LowDenial, forced_word, divided_word, met_word, denied_word, RootBits, missed, EntryBits, ByEntries, Looked, Asked, FitsFor};
 
 use bits::{bit_at, has_bit};
 use branch::{Branch, root_at};
@@ -17,7 +16,7 @@ use rules::{Child, Denial, Literal, Row, Split, denial_of, row_of, split_of};
 use terms::{OUT, SetVar, Term};
 
 // The roots of which a literal is known, as bits.
-fn of(b: &Branch, l: Literal) -> u64
+fn known(b: &Branch, l: Literal) -> u64
     requires { Low l }
     ensures { result ≡ row_at b.now.rows l }
 {
@@ -29,7 +28,7 @@ fn forced(b: &Branch, r: Row) -> u64
     requires { LowRow r }
     ensures { result ≡ forced_word b.now.rows r }
 {
-    of(b, r.0) & of(b, r.1) & !of(b, r.2)
+    known(b, r.0) & known(b, r.1) & !known(b, r.2)
 }
 
 // The roots at which a split applies.
@@ -37,9 +36,9 @@ fn divided(b: &Branch, s: Split) -> u64
     requires { LowSplit s }
     ensures { result ≡ divided_word b.now.rows s }
 {
-    let left = of(b, Literal(s.1.0)) | of(b, Literal(OUT + s.1.0));
-    let right = of(b, Literal(s.2.0)) | of(b, Literal(OUT + s.2.0));
-    of(b, s.0) & !(left | right)
+    let left = known(b, Literal(s.1.0)) | known(b, Literal(OUT + s.1.0));
+    let right = known(b, Literal(s.2.0)) | known(b, Literal(OUT + s.2.0));
+    known(b, s.0) & !(left | right)
 }
 
 // The roots of which all literals of a child are known.
@@ -47,7 +46,7 @@ fn met(b: &Branch, c: Child) -> u64
     requires { LowChild c }
     ensures { result ≡ met_word b.now.rows c }
 {
-    of(b, c.0) & of(b, c.1) & of(b, c.2)
+    known(b, c.0) & known(b, c.1) & known(b, c.2)
 }
 
 // The root of t's class.
@@ -89,13 +88,10 @@ fn first_missing(list: &[u8], b: &Branch, row: u64) -> u64
     requires { Each (λ e. e < most_terms) list.now × Falls b.now.parents }
     ensures { result ≡ missed b.now.parents row list.now }
 {
-    for &e in list {
-        let h = root(b, Term(e)).0;
-        if !has_bit(row, h) {
-            return bit_at(h);
-        }
-    }
-    0
+    list.iter()
+        .map(|e| root(b, Term(*e)).0)
+        .find(|h| !has_bit(row, *h))
+        .map_or(0, bit_at)
 }
 
 // The entries of a list, as bits.
@@ -111,7 +107,7 @@ fn unshared(b: &Branch, entries: u64, a: SetVar, split: bool) -> u64
     requires { a.0 < most_sets }
     ensures { result ≡ unshared_of b.now.rows entries split a }
 {
-    let row = of(b, Literal(a.0));
+    let row = known(b, Literal(a.0));
     if split {
         return row & !entries;
     }
@@ -120,7 +116,7 @@ fn unshared(b: &Branch, entries: u64, a: SetVar, split: bool) -> u64
 
 // One test shows that no propagation rule of a constraint applies, or no split. Only of constraints of kind 4 and of lists there is such a test.
 pub fn rests(b: &Branch, entries: u64, l: &Constraint, split: bool) -> bool
-    requires { Falls b.now.parents × ConstraintIn most_terms most_sets (decoded l.now) }
+    requires { Falls b.now.parents × Looked l.now }
     ensures { result ≡ rests_by b.now.parents b.now.rows entries split l.now }
 {
     match *l {
@@ -135,7 +131,7 @@ fn by_entries(b: &Branch, list: &[u8], entries: u64, a: SetVar, rule: u8) -> u64
     requires { Falls b.now.parents × EntryBits list.now entries × (a.0 < most_sets) }
     ensures { ByEntries b.now.parents (row_at b.now.rows (record { 0 = a.0 })) list.now rule result }
 {
-    let row = of(b, Literal(a.0));
+    let row = known(b, Literal(a.0));
     if rule == 19 {
         return first_missing(list, b, row);
     }
@@ -148,8 +144,8 @@ pub fn fitting(b: &Branch, entries: u64, l: &Constraint, rule: u8) -> u64
     ensures { FitsFor b.now.parents b.now.rows l.now rule result }
 {
     match *l {
-        Constraint::Member(t, a) => bit_at(root(b, t).0) & !of(b, Literal(a.0)),
-        Constraint::Nonmember(t, a) => bit_at(root(b, t).0) & !of(b, Literal(OUT + a.0)),
+        Constraint::Member(t, a) => bit_at(root(b, t).0) & !known(b, Literal(a.0)),
+        Constraint::Nonmember(t, a) => bit_at(root(b, t).0) & !known(b, Literal(OUT + a.0)),
         Constraint::Same(t, u) => bit_at(root(b, t).0) & !bit_at(root(b, u).0),
         Constraint::Different(t, u) => together(b, t, u),
         Constraint::Related(_, of) => {

@@ -10,7 +10,7 @@ use listing_lines::{line, lines};
 use std::io;
 use std::io::{Read, Write};
 
-// Reads until buf is full, the input ends or a read fails. Answers how many bytes it put at the start of buf, and whether all reads went well.
+// Reads until buf is full, the input ends or a read fails. Answers how many bytes it put at the start of buf, and whether all reads went well. std's `read_exact` does not say how many came.
 fn read_full<R: Read>(from: &mut R, buf: &mut [u8]) -> (usize, io::Result<()>)
     ensures inside { result.0 ≤ length buf.new }
     ensures bytes { Consumes (R.remaining from.old) (R.remaining from.new) (take result.0 buf.new) }

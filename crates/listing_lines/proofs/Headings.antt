@@ -1,36 +1,35 @@
 -- The first line, from the answer word.
 use mathlib.Core.Path.{◌≡◌, refl, sym, ap, ◌∙◌}
 use mathlib.Core.List.{List}
-use Prim.Native.Nat.{ℕ, ◌+◌, ◌/◌, ◌%◌, ◌≤◌, ◌<◌}
+use Prim.Native.Nat.{ℕ, ◌^◌, ◌/◌, ◌%◌, ◌≤◌, ◌<◌}
 use native.Mathlib.Omega.{arith}
 use lib.ListN.{length}
 use borrow.Author.Tests.{eq-eqb, ne_eqb}
 use Rattle.calculus.specs.Calls.{Verdict, FORMS, FALSE, SPENT, NOROOM, Answer, refusal, ended, answer_word, verdict_number}
 use Rattle.calculus.proofs.AnswerLaws.{answers}
 use Rattle.capi.proofs.Contracted.{some_number}
-use Rattle.text.specs.Text.{decimal, Wrote}
+use Rattle.text.specs.Text.{decimal}
 use Rattle.listing_lines.specs.Listing.{verdict_name, program_call}
-use Rattle.listing_lines.specs.Writing.{verdict_at, answer_in}
-use Rattle.text.proofs.Texts.{decimal_length, wrote_length}
+use Rattle.listing_lines.specs.Writing.{verdict_at, answer_in, run_verdict, ReadOff}
+use Rattle.capi.specs.declared.verdict.Verdict as code
+use Rattle.listing_lines.specs.declared.answer.Answer.TheVariants.{Ended}
+use Rattle.text.proofs.Texts.{decimal_length}
 
 pub refused_in : (word : ℕ) → word % 256 ≡ 0 → refusal (word / 256 % 256) ≡ answer_in word
 unfolding answer_in
 refused_in word e = rw (eq-eqb (word % 256) 0 e) refl
 
-pub ended_in : (word : ℕ) (v : Verdict) → ¬ (word % 256 ≡ 0) → v ≡ verdict_at (word % 256) → ended v (word / 65536 % 65536) (word / 4294967296) ≡ answer_in word
+pub ended_in : (word : ℕ) (v : code.Verdict) → word < 2 ^ 64 → ¬ (word % 256 ≡ 0) → run_verdict v ≡ verdict_at (word % 256) → ReadOff word (Ended v (word / 65536 % 65536) (word / 4294967296))
 unfolding answer_in
-ended_in word v n e = rw (ne_eqb (word % 256) 0 n, e) refl
+ended_in word v l n e = (rw (ne_eqb (word % 256) 0 n, e) refl, (omega arith, omega arith))
 
 pub other_verdict : (n : ℕ) → ¬ (n ≡ 1) → ¬ (n ≡ 2) → ¬ (n ≡ 3) → NOROOM ≡ verdict_at n
 other_verdict n a b c = rw (ne_eqb n 1 a, ne_eqb n 2 b, ne_eqb n 3 c) refl
 
--- ---- a piece of at most n bytes was written where there was room for it
-
-pub piece : {d : List ℕ} {at : ℕ} {s : List ℕ} {e : ℕ} {d₁ : List ℕ} (n : ℕ) → length s ≤ n → at + n ≤ length d → Wrote d at s e d₁ → (e ≤ at + n) × (length d₁ ≡ length d)
-piece n l r w = (omega (arith, w.ends), wrote_length w (omega arith))
+-- ---- the pieces are short
 
 pub forms_short : (n : ℕ) → n < 4294967296 → length (decimal n) ≤ 10
-forms_short n l = decimal_length 9 n (omega arith)
+forms_short n l = decimal_length 10 n (omega arith) (omega arith) (omega arith)
 
 pub name_short : (v : Verdict) → length (verdict_name v) ≤ 7
 name_short FORMS = omega arith

@@ -16,11 +16,12 @@ use Rattle.calculus.specs.Forms.{model_number, model, handed_model}
 use Rattle.calculus.proofs.Bools.{each_app, each_take}
 use Rattle.calculus.proofs.Sequences.{long, at}
 use Rattle.problem.specs.declared.table.Table.{Table}
-use Rattle.problem.specs.Table.{Opened}
-use Rattle.text.specs.Text.{number, separated, braces, assigned, led, Wrote}
+use Rattle.text.specs.declared.Text.{Text}
+use Rattle.text.specs.Text.{number, separated, braces, assigned, led, Says}
+use Rattle.listing_lines.specs.declared.form.Form.{Form}
 use Rattle.listing_lines.specs.Listing.{items, form_line}
 use Rattle.listing_lines.specs.Writing.{problem_in, item_at}
-use Rattle.text.proofs.Texts.{wrote_more}
+use Rattle.text.proofs.Texts.{says_more}
 use Rattle.text.proofs.Separating.{separated_more}
 use Rattle.listing_lines.proofs.Values.{Known, known, letters}
 
@@ -103,34 +104,43 @@ module _ (prob : Problem) (r : List ℕ) where
   unfolding items_text
   items_more k start l = ap (separated 32) (take-suc all k [] (omega (arith, l, items_length))) ∙ separated_more 32 start (take k all) (get_or all k []) (each_take (λ x. 1 ≤ length x) k all all_long)
 
-  pub item_step : (k : ℕ) {d : List ℕ} {end m e : ℕ} {d₁ d₂ d₃ : List ℕ} → k < variables + set_count prob → Wrote d 0 (items_text k) end d₁ → length d₁ ≡ length d → end ≤ length d
-      → Wrote d₁ end (led 32 0 end) m d₂ → Wrote d₂ m (item_at prob r k) e d₃ → Wrote d 0 (items_text (k + 1)) e d₃
-  item_step k {d} {end} {m} {e} {d₁} {d₂} {d₃} l v q s u w =
-      let n : end ≡ 0 + length (items_text k) = v.ends in
-      let x : items_text k ++ (led 32 0 end ++ item_at prob r k) ≡ items_text (k + 1) = ap (λ (j : ℕ). items_text k ++ (led 32 0 j ++ item_at prob r k)) n ∙ sym (items_more k 0 l) ∙ ap items_text (sym (add-one k)) in
-      subst (λ (y : List ℕ). Wrote d 0 y e d₃) x (wrote_more (omega arith) v (wrote_more (omega (arith, s, q)) u w))
+  pub item_step : (k : ℕ) {a b c d : Text} → k < variables + set_count prob → a.end ≡ 0 → Says a (items_text k) b → b.end ≤ length a.buffer.now
+      → Says b (led 32 0 b.end) c → Says c (item_at prob r k) d → Says a (items_text (k + 1)) d
+  item_step k {a} {b} {c} {d} l z v s u w =
+      let n : b.end ≡ 0 + length (items_text k) = omega (arith, v.ends, z) in
+      let x : items_text k ++ (led 32 0 b.end ++ item_at prob r k) ≡ items_text (k + 1) = ap (λ (j : ℕ). items_text k ++ (led 32 0 j ++ item_at prob r k)) n ∙ sym (items_more k 0 l) ∙ ap items_text (sym (add-one k)) in
+      subst (λ (y : List ℕ). Says a y d) x (says_more (omega (arith, z)) v (says_more (omega (arith, s, v.long)) u w))
 
 -- ---- what the code reads
 
-module _ (bs : List ℕ) (tab : Table) (o : Opened bs tab) (r : List ℕ) (k : ℕ) where
-  abbrev K : Known bs tab
-  K = known bs tab o
+module _ (f : Form) (k : ℕ) where
+  abbrev bs : List ℕ
+  bs = f.problem.bytes.now
+
+  abbrev tab : Table
+  tab = f.problem.table
+
+  abbrev r : List ℕ
+  r = f.record.now
+
+  abbrev K : Known f
+  K = known f
 
   pub variable_there : k < tab.variables → 2 + 2 * tab.constants + k < length bs
-  variable_there l = omega (arith, K.constants, ((letters bs tab o).variable k (omega (arith, l, K.variables))).0)
+  variable_there l = omega (arith, K.constants, ((letters f).variable k (omega (arith, l, K.variables))).0)
 
   pub variable_is : k < tab.variables → item_at (problem_in bs) r k ≡ (get_or bs (2 + 2 * tab.constants + k) 0 ∷ 61 ∷ []) ++ number (model_number (problem_in bs) r (term (tab.constants + k)))
   variable_is l =
       let m : k < length (problem_in bs).variables = omega (arith, l, K.variables) in
       item_variable (problem_in bs) r k m
-      ∙ rw K.constants (ap (λ (c : ℕ). c ∷ 61 ∷ number (model_number (problem_in bs) r (term (constant_count (problem_in bs) + k)))) (sym ((letters bs tab o).variable k m).1))
+      ∙ simp K.constants (ap (λ (c : ℕ). c ∷ 61 ∷ number (model_number (problem_in bs) r (term (constant_count (problem_in bs) + k)))) (sym ((letters f).variable k m).1))
 
   pub set_there : tab.variables ≤ k → k < tab.variables + tab.sets → 3 + 2 * tab.constants + k < length bs
-  set_there l m = omega (arith, l, K.constants, K.variables, ((letters bs tab o).set (k - length (problem_in bs).variables) (omega (arith, l, m, K.variables, K.sets))).0)
+  set_there l m = omega (arith, l, K.constants, K.variables, ((letters f).set (k - length (problem_in bs).variables) (omega (arith, l, m, K.variables, K.sets))).0)
 
   pub set_is : tab.variables ≤ k → k < tab.variables + tab.sets → item_at (problem_in bs) r k ≡ (get_or bs (3 + 2 * tab.constants + k) 0 ∷ 61 ∷ []) ++ braces ((model (problem_in bs) r).members (set_var (k - tab.variables)))
   set_is l m =
-      let q = ((letters bs tab o).set (k - length (problem_in bs).variables) (omega (arith, l, m, K.variables, K.sets))).1 in
+      let q = ((letters f).set (k - length (problem_in bs).variables) (omega (arith, l, m, K.variables, K.sets))).1 in
       let e : length (problem_in bs).variables + (k - length (problem_in bs).variables) ≡ k = omega (arith, l, K.variables) in
       item_set (problem_in bs) r k (omega (arith, l, K.variables)) (omega (arith, m, K.variables, K.sets))
-      ∙ rw (K.constants, K.variables) (ap (λ (c : ℕ). c ∷ 61 ∷ braces ((model (problem_in bs) r).members (set_var (k - length (problem_in bs).variables)))) (sym q ∙ ap (λ (j : ℕ). get_or bs (3 + 2 * constant_count (problem_in bs) + j) 0) e))
+      ∙ simp (K.constants, K.variables) (ap (λ (c : ℕ). c ∷ 61 ∷ braces ((model (problem_in bs) r).members (set_var (k - length (problem_in bs).variables)))) (sym q ∙ ap (λ (j : ℕ). get_or bs (3 + 2 * constant_count (problem_in bs) + j) 0) e))

@@ -12,8 +12,9 @@ use Rattle.calculus.specs.Lists.{up_from, keep}
 use Rattle.calculus.specs.Terms.{Term, term, set_var, terms_from}
 use Rattle.calculus.specs.Problem.{Problem, term_count}
 use Rattle.calculus.specs.Forms.{model_number, model}
-use Rattle.text.specs.Text.{number, separated, braces, led, Wrote}
-use Rattle.text.proofs.Texts.{wrote_more}
+use Rattle.text.specs.declared.Text.{Text}
+use Rattle.text.specs.Text.{number, separated, braces, led, Says}
+use Rattle.text.proofs.Texts.{says_more}
 use Rattle.text.proofs.Separating.{separated_more, all_long}
 use Rattle.listing_lines.specs.Writing.{inside_at, member_text}
 
@@ -75,7 +76,7 @@ module _ (prob : Problem) (r : List ℕ) (A : ℕ) where
       go true = ap (separated 44) (map-append number (first_members t) (model_number prob r (term t) ∷ [])) ∙ separated_more 44 start (map number (first_members t)) (number (model_number prob r (term t))) (all_long (first_members t))
       go false = ap (λ (l : List ℤ). separated 44 (map number l)) (append-nil (first_members t)) ∙ sym (append-nil (separated 44 (map number (first_members t))))
 
-  pub member_step : (t : ℕ) {d : List ℕ} {start end e : ℕ} {d₁ d₂ : List ℕ} → start ≤ length d → Wrote d start (members_text t) end d₁ → Wrote d₁ end (member_text prob r A t start end) e d₂ → Wrote d start (members_text (t + 1)) e d₂
-  member_step t {d} {start} {end} {e} {d₁} {d₂} l v w =
-      let m : members_text t ++ member_text prob r A t start end ≡ members_text (t + 1) = ap (λ (x : ℕ). members_text t ++ member_text prob r A t start x) v.ends ∙ sym (members_more t start) ∙ ap members_text (sym (add-one t)) in
-      subst (λ (x : List ℕ). Wrote d start x e d₂) m (wrote_more l v w)
+  pub member_step : (t : ℕ) {a b c : Text} → a.end ≤ length a.buffer.now → Says a (members_text t) b → Says b (member_text prob r A t a.end b.end) c → Says a (members_text (t + 1)) c
+  member_step t {a} {b} {c} l v w =
+      let m : members_text t ++ member_text prob r A t a.end b.end ≡ members_text (t + 1) = ap (λ (x : ℕ). members_text t ++ member_text prob r A t a.end x) v.ends ∙ sym (members_more t a.end) ∙ ap members_text (sym (add-one t)) in
+      subst (λ (x : List ℕ). Says a x c) m (says_more l v w)

@@ -18,29 +18,29 @@ use Rattle.calculus.proofs.Sections.{First}
 use Rattle.calculus.proofs.ReadValid.{first_question, read_first}
 use Rattle.calculus.proofs.RecordFields.{no_longer}
 use Rattle.problem.specs.declared.table.Table.{Table}
-use Rattle.problem.specs.Table.{problem_table, Opened, constant_of, values_of}
+use Rattle.problem.specs.Table.{problem_table, constant_of, values_of}
 use Rattle.problem.proofs.Access.{opened, opened_sizes}
 use Rattle.listing_lines.specs.declared.form.Form.{Form}
-use Rattle.listing_lines.specs.Writing.{problem_of, problem_in, Shaped}
+use Rattle.listing_lines.specs.Writing.{problem_of, problem_in}
 
 -- ---- the problem
 
--- an opened table is that of the problem
-pub record Known (bs : List ℕ) (tab : Table) : Type 0 where
-  pub reads : read bs ≡ parsed (problem_in bs)
-  pub constants : tab.constants ≡ constant_count (problem_in bs)
-  pub variables : tab.variables ≡ length (problem_in bs).variables
-  pub sets : tab.sets ≡ set_count (problem_in bs)
-  pub terms : tab.terms ≡ term_count (problem_in bs)
-  pub few_sets : tab.sets ≤ most_sets
-  pub few_terms : tab.terms ≤ most_terms
+-- the table of a form's problem is that of the problem
+pub record Known (f : Form) : Type 0 where
+  pub reads : read f.problem.bytes.now ≡ parsed (problem_in f.problem.bytes.now)
+  pub constants : f.problem.table.constants ≡ constant_count (problem_in f.problem.bytes.now)
+  pub variables : f.problem.table.variables ≡ length (problem_in f.problem.bytes.now).variables
+  pub sets : f.problem.table.sets ≡ set_count (problem_in f.problem.bytes.now)
+  pub terms : f.problem.table.terms ≡ term_count (problem_in f.problem.bytes.now)
+  pub few_sets : f.problem.table.sets ≤ most_sets
+  pub few_terms : f.problem.table.terms ≤ most_terms
 
-pub known : (bs : List ℕ) (tab : Table) → Opened bs tab → Known bs tab
+pub known : (f : Form) → Known f
 unfolding problem_of problem_table
-known bs tab o =
-    let r = opened bs tab o in
-    let z = opened_sizes bs tab o in
-    let e : problem_in bs ≡ r.prob = ap problem_of r.reads in
+known f =
+    let r = opened _ _ f.problem.opened in
+    let z = opened_sizes _ _ f.problem.opened in
+    let e : problem_in f.problem.bytes.now ≡ r.prob = ap problem_of r.reads in
     record {
       reads = rw e r.reads;
       constants = rw e (ap (λ (t : Table). t.constants) r.shows);
@@ -50,6 +50,9 @@ known bs tab o =
       few_sets = z.1;
       few_terms = z.2;
     }
+
+pub few_items : (f : Form) → f.problem.table.variables + f.problem.table.sets ≤ 72
+few_items f = omega (arith, known f)
 
 -- the letters stand after the counts
 pub record LettersStand (prob : Problem) (u : List ℕ) : Type 0 where
@@ -70,41 +73,37 @@ letters_stand prob u (then (one {b = k}) (then (counted {xs = ws} e₁) (answere
       set = λ i q. let e : 3 + 2 * length (words ws) + (length ns + i) ≡ suc (length ws + suc (length ns + suc i)) = omega (arith, l) in (omega (arith, l, q, a₁, a₂, a₃), rw e (get_or-append-add ws g₁ (suc (length ns + suc i)) 0 ∙ get_or-append-add ns g₂ (suc i) 0 ∙ get_or-append ss g₃ 0 i q));
     })
 
-pub letters : (bs : List ℕ) (tab : Table) → Opened bs tab → LettersStand (problem_in bs) bs
-letters bs tab o = letters_stand (problem_in bs) bs (read_first bs (problem_in bs) (first_question bs (problem_in bs) (known bs tab o).reads).1)
+pub letters : (f : Form) → LettersStand (problem_in f.problem.bytes.now) f.problem.bytes.now
+letters f = letters_stand _ _ (read_first _ _ (first_question _ _ (known f).reads).1)
 
 -- ---- a listed record
 
-module _ (bs : List ℕ) (tab : Table) (o : Opened bs tab) (r : List ℕ) (form : Shaped (problem_in bs) r) (t : ℕ) (l : t < tab.terms) where
+module _ (f : Form) (t : ℕ) (l : t < f.problem.table.terms) where
   abbrev prob : Problem
-  prob = problem_in bs
+  prob = problem_in f.problem.bytes.now
+
+  abbrev r : List ℕ
+  r = f.record.now
 
   in_range : t < term_count prob
-  in_range = omega (arith, l, (known bs tab o).terms)
+  in_range = omega (arith, l, (known f).terms)
 
   pub term_there : (t < most_terms) × (record_length (suc t) ≤ length r)
-  term_there = (omega (arith, l, (known bs tab o).few_terms), omega (arith, form.shape.long, no_longer (suc t) (term_count prob) in_range))
+  term_there = (omega (arith, l, (known f).few_terms), omega (arith, f.shaped.shape.long, no_longer (suc t) (term_count prob) in_range))
 
   module _ (root : ℕ) (shown : root ≡ root_in r t) where
-    pub root_low : root ≤ t
-    root_low = omega (arith, shown, form.shape.lowest t t in_range in_range refl)
+    pub root_low : root < most_terms
+    root_low = omega (arith, shown, term_there.0, f.shaped.shape.lowest t t in_range in_range refl)
 
-    pub constant_value : root < tab.constants → constant_of bs root ≡ model_number prob r (term t)
+    pub constant_value : root < f.problem.table.constants → constant_of f.problem.bytes.now root ≡ model_number prob r (term t)
     unfolding constant_of values_of
     constant_value q =
-        let k = known bs tab o in
+        let k = known f in
         ap (λ (p : Parsed Problem). get_or (values_of p) root (pos 0)) k.reads
-        ∙ sym (form.constant t root in_range (omega (arith, q, k.constants)) (ap (root_in r) shown ∙ form.shape.own t in_range))
+        ∙ sym (f.shaped.constant t root in_range (omega (arith, q, k.constants)) (ap (root_in r) shown ∙ f.shaped.shape.own t in_range))
 
-    pub free_value : tab.constants ≤ root → signed (32001 + root) ≡ model_number prob r (term t)
+    pub free_value : f.problem.table.constants ≤ root → signed (32001 + root) ≡ model_number prob r (term t)
     free_value q =
-        let k = known bs tab o in
-        rw (lt-ltb (32001 + root) 32768 (omega (arith, shown, form.most t in_range)))
-        (ap (λ (h : ℕ). pos (32001 + h)) shown ∙ sym (form.free t in_range (λ i m e. omega (arith, q, shown, k.constants, m, form.shape.lowest t i in_range (omega arith) (sym e)))))
-
--- what is known of a form's problem
-pub known_of : (f : Form) → Known f.problem.bytes.now f.problem.table
-known_of f = known f.problem.bytes.now f.problem.table f.problem.opened
-
-pub term_of : (f : Form) (t : ℕ) → t < f.problem.table.terms → (t < most_terms) × (record_length (suc t) ≤ length f.record.now)
-term_of f = term_there f.problem.bytes.now f.problem.table f.problem.opened f.record.now f.shaped
+        let k = known f in
+        rw (lt-ltb (32001 + root) 32768 (omega (arith, shown, f.shaped.most t in_range)))
+        (ap (λ (h : ℕ). pos (32001 + h)) shown ∙ sym (f.shaped.free t in_range (λ i m e. omega (arith, q, shown, k.constants, m, f.shaped.shape.lowest t i in_range (omega arith) (sym e)))))

@@ -4,7 +4,7 @@ ghost use Rattle.calculus.specs.Limits.{most_sets, most_terms};
 ghost use Rattle.calculus.specs.Terms.{term, set_var};
 ghost use Rattle.calculus.specs.Reading.{signed};
 ghost use Rattle.calculus.specs.Forms.{record_length, model_number, model};
-ghost use Rattle.text.specs.Text.{braces, Wrote};
+ghost use Rattle.text.specs.Text.{braces, Says};
 ghost use Rattle.listing_lines.specs.Listing.{form_line};
 ghost use Rattle.listing_lines.specs.Writing.{Shaped, problem_in, inside_at, member_text, item_at};
 
@@ -47,9 +47,8 @@ impl Form<'_> {
     // The member of a set that a term stands for, if any, a comma before it unless it is the first.
     fn say_member(&self, set: SetVar, t: Term, start: usize, text: &mut Text)
         requires { (t.0 < self.now.problem.table.terms) × (set.0 < most_sets) × (text.old.end + 7 ≤ length text.old.buffer.now) }
-        ensures wrote { Wrote text.old.buffer.now text.old.end (member_text (problem_in self.now.problem.bytes.now) self.now.record.now set.0 t.0 start text.old.end) text.new.end text.new.buffer.now }
+        ensures says { Says text.old (member_text (problem_in self.now.problem.bytes.now) self.now.record.now set.0 t.0 start text.old.end) text.new }
         ensures short { text.new.end ≤ text.old.end + 7 }
-        ensures same { text.new.buffer.ghost_name ≡ text.old.buffer.ghost_name }
     {
         if self.is_inside(t, set) {
             text.lead(b',', start);
@@ -60,9 +59,8 @@ impl Form<'_> {
     // The members of a set.
     fn say_members(&self, set: SetVar, text: &mut Text)
         requires { (set.0 < most_sets) × (text.old.end + 450 ≤ length text.old.buffer.now) }
-        ensures wrote { Wrote text.old.buffer.now text.old.end (braces ((model (problem_in self.now.problem.bytes.now) self.now.record.now).members (set_var set.0))) text.new.end text.new.buffer.now }
+        ensures says { Says text.old (braces ((model (problem_in self.now.problem.bytes.now) self.now.record.now).members (set_var set.0))) text.new }
         ensures short { text.new.end ≤ text.old.end + 450 }
-        ensures same { text.new.buffer.ghost_name ≡ text.old.buffer.ghost_name }
     {
         text.say(b"{");
         let start = text.end;
@@ -72,12 +70,11 @@ impl Form<'_> {
         text.say(b"}");
     }
 
-    // A variable or a set: its letter, an equals sign and its value.
+    // A variable or a set: its letter, an equals sign and its value. One index counts both, as a line's items are one list.
     fn say_item(&self, k: usize, text: &mut Text)
         requires { (k < self.now.problem.table.variables + self.now.problem.table.sets) × (text.old.end + 452 ≤ length text.old.buffer.now) }
-        ensures wrote { Wrote text.old.buffer.now text.old.end (item_at (problem_in self.now.problem.bytes.now) self.now.record.now k) text.new.end text.new.buffer.now }
+        ensures says { Says text.old (item_at (problem_in self.now.problem.bytes.now) self.now.record.now k) text.new }
         ensures short { text.new.end ≤ text.old.end + 452 }
-        ensures same { text.new.buffer.ghost_name ≡ text.old.buffer.ghost_name }
     {
         let constants = self.problem.table.constants as usize;
         let variables = self.problem.table.variables as usize;
@@ -93,8 +90,7 @@ impl Form<'_> {
     // The line.
     pub fn say_line(&self, text: &mut Text)
         requires { (text.old.end ≡ 0) × (32768 ≤ length text.old.buffer.now) }
-        ensures wrote { Wrote text.old.buffer.now 0 (form_line (problem_in self.now.problem.bytes.now) self.now.record.now) text.new.end text.new.buffer.now }
-        ensures same { text.new.buffer.ghost_name ≡ text.old.buffer.ghost_name }
+        ensures says { Says text.old (form_line (problem_in self.now.problem.bytes.now) self.now.record.now) text.new }
     {
         let table = &self.problem.table;
         for k in 0..table.variables as usize + table.sets as usize {

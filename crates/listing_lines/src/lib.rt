@@ -6,7 +6,7 @@ mod form;
 
 ghost use Rattle.std.specs.Prelude.{◌≡◌, List, ℕ, ◌+◌, ◌/◌, ◌≤◌, length};
 ghost use Rattle.calculus.specs.Calls.{over};
-ghost use Rattle.text.specs.Text.{Wrote};
+ghost use Rattle.text.specs.Text.{Says};
 ghost use Rattle.listing_lines.specs.Listing.{heading, verdict_name, listing};
 ghost use Rattle.listing_lines.specs.Writing.{Small, run_verdict, run_answer, ProgramRan, line_at};
 
@@ -30,10 +30,10 @@ fn name_of(verdict: Verdict) -> &'static [u8]
 }
 
 // The first line, of the answer of a run.
+#[tactic(auto, using(text::proofs::Texts::decimal_short, crate::proofs::Headings::forms_short, crate::proofs::Headings::name_short))]
 fn say_heading(answer: Answer, text: &mut Text)
     requires { Small answer × (text.old.end + 64 ≤ length text.old.buffer.now) }
-    ensures wrote { Wrote text.old.buffer.now text.old.end (heading (run_answer answer)) text.new.end text.new.buffer.now }
-    ensures same { text.new.buffer.ghost_name ≡ text.old.buffer.ghost_name }
+    ensures says { Says text.old (heading (run_answer answer)) text.new }
 {
     match answer {
         Answer::Refused(number) => {

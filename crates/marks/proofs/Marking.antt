@@ -1,99 +1,68 @@
--- The words by literal, in the loops of `mark`, `woken` and `prepare`. The first two take the lowest literal of a mask, so that the others are left to do. The third has the words right for the constraints before i.
-use mathlib.Core.Path.{◌≡◌, refl, sym, ap, ap₂, ◌∙◌}
+-- The words by constraint and by mark, in the loop of `prepare`: they are right for the constraints before i.
+use mathlib.Core.Path.{◌≡◌, refl, sym, ap, ◌∙◌}
 use mathlib.Core.Logic.{◌⊎◌, inl, inr}
-use mathlib.Core.Bool.{Bool, true, ◌&&◌, ◌||◌, or-false, or_assoc}
+use mathlib.Core.Bool.{Bool, true, false, ◌&&◌, ◌||◌, cond, or-false}
 use mathlib.Core.List.{List}
-use Prim.Native.Nat.{ℕ, zero, suc, ◌+◌, ◌^◌, ◌<◌, ◌≤◌}
+use Prim.Native.Nat.{ℕ, ◌+◌, ◌-◌, ◌^◌, ◌<◌, ◌≤◌}
 use native.Mathlib.Omega.{arith}
-use native.Mathlib.Decide.{ℕ_discrete}
-use lib.ListN.{length, get_or, set, replicate, length-set}
+use native.Mathlib.Decide.{ℕ_discrete, dec_lt}
+use lib.ListN.{length, get_or, set, replicate, length-set, get_or-eq_default}
 use lib.Seq.{get_or-set_same, get_or-set_other}
-use lib.Dec.{eqb}
+use lib.Dec.{eqb, ltb}
 use lib.Bits.{bit_or}
-use borrow.Author.Tests.{eq-eqb, eqb-true}
+use borrow.Author.Tests.{eq-eqb, eqb-true, lt-ltb}
 use Rattle.calculus.specs.Limits.{most_constraints}
-use Rattle.calculus.specs.Lists.{up_from, any, bit}
+use Rattle.calculus.specs.Lists.{any, bit}
 use Rattle.calculus.specs.Terms.{Term, term}
 use Rattle.calculus.specs.Meaning as calculus
 use Rattle.calculus.specs.Reading.{read}
-use Rattle.calculus.proofs.Bools.{clash, and_i, and_r, or_cases, or_l, or_r, any_map}
+use Rattle.calculus.proofs.Bools.{clash, same_test, and_i, and_l, and_r, or_cases, or_l, or_r, any_map}
 use Rattle.calculus.proofs.Sequences.{zeros}
-use Rattle.bits.specs.Ones.{Takes}
-use Rattle.bits.proofs.Taking.{takes_here, takes_other, takes_left}
-use Rattle.bits.proofs.Bits.{bit_of_or, bit_pow, bit_zero, bit_low, no_bit}
+use Rattle.bits.specs.Words.{turn, turn_words}
+use Rattle.bits.proofs.Turning.{turn_length, turn_at}
+use Rattle.bits.proofs.Bits.{bit_of_or, bit_pow, bit_ones, bit_zero, bit_of_and, bit_high}
 use Rattle.problem.specs.declared.table.Table.{Table}
 use Rattle.problem.specs.Table.{Opened, constraints_of, constraint_of}
 use Rattle.problem.proofs.Access.{opened_sizes, constraint_count}
 use Rattle.places.specs.Places.{entries_of}
-use Rattle.branch.specs.Rows.{literal_count}
 use Rattle.constraints.specs.declared.Constraint.{Constraint}
 use Rattle.constraints.specs.Decoded.{decoded, entries_in, Unpacked}
 use Rattle.constraints.proofs.Decoding.{entries_as}
 use Rattle.fits.specs.Words.{EntryBits}
 use Rattle.quiet.specs.Quiet.{WordsOf, mark_count, pair_mark, split_mark}
-use Rattle.marks.specs.Marks.{NeedsOf, Marked}
+use Rattle.marks.specs.Marks.{NeedsOf}
 
--- ---- marking
+-- bit i is set in the words of these literals, and nothing else changes
+abbrev Marked : (literals i : ℕ) (before after : List ℕ) → Type 0
+Marked literals i before after = (k m : ℕ) → bit (get_or after k 0) m ≡ (bit (get_or before k 0) m || (bit literals k && eqb m i))
 
--- what marking the literals that are left makes of the words now, marking all makes of the words before
-pub record Marking (all i : ℕ) (before marks : List ℕ) (left : ℕ) : Type 0 where
-  pub low : (k : ℕ) → bit left k ≡ true → k < mark_count
-  pub rest : (after : List ℕ) → Marked left i marks after → Marked all i before after
-
-pub mark_start : (i : ℕ) {all : ℕ} {marks : List ℕ} → all < 2 ^ mark_count → Marking all i marks marks all
-mark_start i {all} h = record { low = λ k e. bit_low mark_count all k h e; rest = λ after r. r }
-
-module _ {all i left : ℕ} {before marks : List ℕ} (g : Marking all i before marks left) where
-  pub mark_end : left ≡ 0 → Marked all i before marks
-  mark_end e = g.rest marks (λ k m. sym (ap (λ (x : Bool). bit (get_or marks k 0) m || (x && eqb m i)) (no_bit left k e) ∙ or-false (bit (get_or marks k 0) m)))
-
-  -- the lowest literal first, and then the others
-  pub mark_next : {low then one : ℕ} → Takes left low then → length marks ≡ mark_count → one ≡ 2 ^ i → Marking all i before (set marks low (bit_or (get_or marks low 0) one)) then
-  mark_next {low} {then} {one} t long p = record { low = λ k e. g.low k (takes_left t k e); rest = λ after r. g.rest after (λ k m. r k m ∙ same k m (ℕ_discrete k low)) }
-    where
-      word : ℕ
-      word = bit_or (get_or marks low 0) one
-
-      same : (k m : ℕ) → Dec (k ≡ low) → (bit (get_or (set marks low word) k 0) m || (bit then k && eqb m i)) ≡ (bit (get_or marks k 0) m || (bit left k && eqb m i))
-      same k m (yes e) = rw (e, get_or-set_same marks low word 0 (omega (arith, g.low low t.set, long)), bit_of_or (get_or marks low 0) one m, p, bit_pow i m, takes_here t, t.set) (or-false (bit (get_or marks low 0) m || eqb m i))
-      same k m (no e) = rw (get_or-set_other marks low k word 0 e, takes_other t k e) refl
-
--- ---- gathering
-
--- one bit first, and then the others
-module _ {s k t : ℕ} (takes : Takes s k t) (q : ℕ → Bool) where
-  same_above : (n a : ℕ) → k < a → any (λ (i : ℕ). bit s i && q i) (up_from a n) ≡ any (λ (i : ℕ). bit t i && q i) (up_from a n)
-  same_above zero a l = refl
-  same_above (suc n) a l = ap₂ (λ (x y : Bool). (x && q a) || y) (sym (takes_other takes a (λ e. omega arith))) (same_above n (suc a) (omega arith))
-
-  any_next : (n a : ℕ) → a ≤ k → k < a + n → any (λ (i : ℕ). bit s i && q i) (up_from a n) ≡ (q k || any (λ (i : ℕ). bit t i && q i) (up_from a n))
-  any_next zero a l h = absurd (omega arith)
-  any_next (suc n) a l h = go (ℕ_discrete a k) (any_next n (suc a))
-    where
-      go : Dec (a ≡ k) → (suc a ≤ k → k < suc a + n → any (λ (i : ℕ). bit s i && q i) (up_from (suc a) n) ≡ (q k || any (λ (i : ℕ). bit t i && q i) (up_from (suc a) n))) → any (λ (i : ℕ). bit s i && q i) (up_from a (suc n)) ≡ (q k || any (λ (i : ℕ). bit t i && q i) (up_from a (suc n)))
-      go (yes e) ih = rw (e, takes.set, takes_here takes) (ap (λ (x : Bool). q k || x) (same_above n (suc k) (omega arith)))
-      go (no e) ih = rw (takes_other takes a e, takes.lowest a (omega arith)) (ih (omega arith) (omega arith))
-
--- constraint i needs a literal of the mask
-abbrev wakes : List ℕ → (mask i : ℕ) → Bool
-wakes marks mask i = any (λ (k : ℕ). bit mask k && bit (get_or marks k 0) i) (up_from 0 literal_count)
-
--- what is found, and what the literals that are left wake, is what all wake
-pub record Gathering (marks : List ℕ) (all found left : ℕ) : Type 0 where
-  pub low : (k : ℕ) → bit left k ≡ true → k < literal_count
-  pub bits : (i : ℕ) → (bit found i || wakes marks left i) ≡ wakes marks all i
-
-pub gather_start : (marks : List ℕ) {all left : ℕ} → left ≡ all → left < 2 ^ literal_count → Gathering marks all 0 left
-gather_start marks {all} {left} e h = record { low = λ k q. bit_low literal_count left k h q; bits = λ i. rw (bit_zero i, e) }
-
-pub gather_next : {marks : List ℕ} {all found left low then : ℕ} → Gathering marks all found left → Takes left low then → Gathering marks all (bit_or found (get_or marks low 0)) then
-gather_next {marks} {all} {found} {left} {low} {then} g t = record { low = λ k e. g.low k (takes_left t k e); bits = λ i. rw (bit_of_or found (word low) i, or_assoc (bit found i) (bit (word low) i) (wakes marks then i), ← any_next t (λ k. bit (word k) i) literal_count 0 (omega arith) (omega (arith, g.low low t.set))) (g.bits i) }
+marked : (literals i : ℕ) (marks : List ℕ) → literals < 2 ^ length marks → i < 64 → ((k m : ℕ) → bit (get_or marks k 0) m ≡ true → m < 64) → Marked literals i marks (turn_words (2 ^ i) 0 literals marks)
+unfolding turn
+marked literals i marks h l low k m = go (dec_lt k (length marks))
   where
-    word : ℕ → ℕ
-    word k = get_or marks k 0
+    w : ℕ
+    w = get_or marks k 0
 
-pub gather_end : {marks : List ℕ} {all found left : ℕ} → Gathering marks all found left → left ≡ 0 → (i : ℕ) → bit found i ≡ wakes marks all i
-gather_end {marks} {all} {found} g e i = sym (or-false (bit found i)) ∙ ap (λ (x : ℕ). bit found i || wakes marks x i) (sym e) ∙ g.bits i
+    below : (bit w m ≡ true) ⊎ (eqb m i ≡ true) → m < 64
+    below (inl e) = low k m e
+    below (inr e) = omega (arith, eqb-true m i e)
+
+    set : Bool
+    set = bit w m || eqb m i
+
+    turned : bit (turn (2 ^ i) 0 w) m ≡ set
+    turned = bit_of_and (bit_or w (2 ^ i)) (2 ^ 64 - 1) m ∙ rw (bit_of_or w (2 ^ i) m, bit_pow i m, bit_ones 64 m) (same_test (set && ltb m 64) set (λ e. and_l set (ltb m 64) e) (λ e. and_i e (lt-ltb m 64 (below (or_cases (bit w m) (eqb m i) e)))))
+
+    by : (x : Bool) → bit (cond x (turn (2 ^ i) 0 w) w) m ≡ (bit w m || (x && eqb m i))
+    by true = turned
+    by false = sym (or-false (bit w m))
+
+    go : Dec (k < length marks) → bit (get_or (turn_words (2 ^ i) 0 literals marks) k 0) m ≡ (bit w m || (bit literals k && eqb m i))
+    go (yes q) = ap (λ (x : ℕ). bit x m) (turn_at (2 ^ i) 0 literals marks k q) ∙ by (bit literals k)
+    go (no q) =
+        let a : get_or (turn_words (2 ^ i) 0 literals marks) k 0 ≡ 0 = get_or-eq_default (turn_words (2 ^ i) 0 literals marks) 0 (omega (arith, turn_length (2 ^ i) 0 literals marks)) in
+        let b : w ≡ 0 = get_or-eq_default marks 0 (omega arith) in
+        rw (a, b, bit_zero m, bit_high (length marks) literals k h (omega arith)) refl
 
 -- ---- the words of the constraints before i
 
@@ -114,8 +83,8 @@ pub record Filled (bs entries marks : List ℕ) (i : ℕ) : Type 0 where
 pub fill_start : (bs : List ℕ) → Filled bs (replicate most_constraints 0) (replicate mark_count 0) 0
 fill_start bs = record { long = refl; listed = λ k l. absurd (omega arith); needed = λ k l. absurd (omega arith); low = λ h k e. clash e (ap (λ (x : ℕ). bit x k) (zeros mark_count h) ∙ bit_zero k); in_problem = omega arith }
 
-pub fill_next : {bs entries marks after : List ℕ} {i : ℕ} {l : Constraint} {w literals : ℕ} → Filled bs entries marks i → (tab : Table) → Opened bs tab → i < tab.constraints → Unpacked bs i l → EntryBits (entries_in l) w → NeedsOf (decoded l) literals → Marked literals i marks after → Filled bs (set entries i w) after (i + 1)
-fill_next {bs} {entries} {marks} {after} {i} {w = w} {literals} f tab o t u b n m = record {
+pub fill_next : {bs entries marks after : List ℕ} {i : ℕ} {l : Constraint} {w literals one : ℕ} → Filled bs entries marks i → (tab : Table) → Opened bs tab → i < tab.constraints → Unpacked bs i l → EntryBits (entries_in l) w → NeedsOf (decoded l) literals → literals < 2 ^ length marks → one ≡ 2 ^ i → after ≡ turn_words one 0 literals marks → Filled bs (set entries i w) after (i + 1)
+fill_next {bs} {entries} {marks} {after} {i} {w = w} {literals} f tab o t u b n s p q = record {
   long = length-set entries i w ∙ f.long;
   listed = λ k l. entry k l (ℕ_discrete k i);
   needed = λ k l. need k l (ℕ_discrete k i);
@@ -123,8 +92,14 @@ fill_next {bs} {entries} {marks} {after} {i} {w = w} {literals} f tab o t u b n 
   in_problem = omega (arith, constraint_count bs tab o);
 }
   where
+    below : i < most_constraints
+    below = omega (arith, (opened_sizes bs tab o).0)
+
+    m : Marked literals i marks after
+    m = rw (q, p) (marked literals i marks s (omega (arith, below)) (λ k h e. omega (arith, f.low k h e, below)))
+
     entry : (k : ℕ) → k < i + 1 → Dec (k ≡ i) → FilledAt bs (set entries i w) k
-    entry k l (yes e) = rw (e, get_or-set_same entries i w 0 (omega (arith, f.long, (opened_sizes bs tab o).0))) (λ h. b.bits h ∙ sym (entries_by u h), b.small)
+    entry k l (yes e) = rw (e, get_or-set_same entries i w 0 (omega (arith, f.long, below))) (λ h. b.bits h ∙ sym (entries_by u h), b.small)
     entry k l (no e) = rw (get_or-set_other entries i k w 0 e) (f.listed k (omega arith))
 
     need : (k : ℕ) → k < i + 1 → Dec (k ≡ i) → (x : ℕ) × NeedsOf (constraint_of bs k) x × ((h : ℕ) → bit x h ≡ true → bit (get_or after h 0) k ≡ true)

@@ -13,10 +13,10 @@ use lib.Pow.{pow-lt}
 use borrow.Author.Tests.{eq-eqb, eqb-true, eqb-false, ltb-true}
 use Rattle.calculus.specs.Limits.{most_sets}
 use Rattle.calculus.specs.Lists.{imp, all, any, bit}
-use Rattle.calculus.specs.Terms.{Term, SetVar, set_var}
+use Rattle.calculus.specs.Terms.{SetVar, set_var}
 use Rattle.calculus.specs.Relations.{Rule, Relation, Negation, equal, union, disjoint, subset, intersection, unequal, Literal, Operand, operand_of, propagation, rows, negation_row}
 use Rattle.calculus.specs.Relations as R
-use Rattle.calculus.specs.Meaning.{Constraint, different, relation, negation}
+use Rattle.calculus.specs.Meaning.{Constraint, relation}
 use Rattle.calculus.proofs.Bools.{clash, and_l, and_r, or_cases, or_l, or_r, imp_at, not_t}
 use Rattle.bits.proofs.Bits.{bit_of_or, bit_pow}
 use Rattle.problem.specs.Table.{kind_of}
@@ -34,8 +34,8 @@ use Rattle.rules.specs.declared.Split.{Split}
 use Rattle.rules.specs.Spans.{Spanned}
 use Rattle.rules.specs.Rows.{HasRow, sets, numbered, literal_number, head, last, laid, parted}
 use Rattle.fits.proofs.TableTests.{row_of_relation}
-use Rattle.fits.specs.Words.{LowRow, LowSplit}
-use Rattle.fits.proofs.RowBits.{laid_low, parted_low}
+use Rattle.fits.specs.Words.{LowRow}
+use Rattle.fits.proofs.RowBits.{laid_low}
 use Rattle.quiet.specs.Quiet.{needs, pairs, pair_mark, split_mark, mark_count, rest_mark}
 use Rattle.marks.specs.Marks.{Premised, RuleNeeds, NeedsOf}
 
@@ -112,9 +112,6 @@ InRange s = (s.0.0 < most_sets) × (s.1.0 < most_sets) × (s.2.0 < most_sets)
 pub row_low : {s : Operands} (j : ℕ) → InRange s → {x : Row} → x ≡ laid (sets s) (numbered j) → LowRow x
 row_low {s} j low p = subst LowRow (sym p) (laid_low s.0.0 s.1.0 s.2.0 low (numbered j))
 
-pub split_low : {s : Operands} → InRange s → {x : Split} → x ≡ parted (sets s) (numbered 12) → LowSplit x
-split_low {s} low p = subst LowSplit (sym p) (parted_low s.0.0 s.1.0 s.2.0 low (numbered 12))
-
 -- x is the rule laid out for its sets, and y for three that differ
 module _ {s : Operands} (j : ℕ) (low : InRange s) {x y : Row} (p : x ≡ laid (sets s) (numbered j)) (q : y ≡ laid (operand_of 0 1 2) (numbered j)) {u v : ℕ} (m : u ≡ 2 ^ x.0.0) (n : v ≡ 2 ^ x.1.0) where
   abbrev both : ℕ
@@ -166,13 +163,6 @@ list_needs A h f g = record {
   where
     both : ℕ
     both = bit_or (2 ^ A) (2 ^ rest_mark)
-
--- a constraint whose rules need no literal: without a split, and with one
-nothing_needed : {l : Constraint} (w : ℕ) → w < 2 ^ mark_count → ((j k : ℕ) → needs l j k ≡ false) → ((j : ℕ) → pairs l j ≡ false) → ((j : ℕ) → InSpan (split_span l) j → bit w split_mark ≡ true) → NeedsOf l w
-nothing_needed w h f g s = record { rules = λ j r. record { needing = λ k z. clash z (f j k); paired = λ z. clash z (g j) }; splits = s; small = h }
-
-unsplit : {P : Type 0} (j : ℕ) → InSpan (0, 0) j → P
-unsplit j v = absurd (omega (arith, v.1))
 
 -- a relation of sets that are in range
 module _ (k : CodedRelation) (S : Operands) where
@@ -227,12 +217,6 @@ module _ (k : CodedRelation) (S : Operands) where
               let z : m ≡ 12 = (rule_12 (relation_of k) (set_var S.0.0) (set_var S.1.0) (set_var S.2.0) m).1 s in
               let r : row_of (relation_of k) 12 ≡ numbered 12 = rw z at (row_of_relation (relation_of k) (set_var S.0.0) (set_var S.1.0) (set_var S.2.0) m (inr s)).is in
               rw z (by_row (relation_of k) S.0.0 S.1.0 S.2.0 12 all r set set (λ y. absurd (false≢true y)))
-
-pub different_needs : {t u : Term} {v w : ℕ} → v ≡ 2 ^ pair_mark → w ≡ 2 ^ rest_mark → NeedsOf (different t u) (bit_or v w)
-different_needs p q = rw (p, q) (record { rules = λ j r. record { needing = λ k z. absurd (false≢true z); paired = λ z. bit_left (2 ^ pair_mark) (2 ^ rest_mark) 16 (bit_own pair_mark) }; splits = unsplit; small = or_lt mark_count (2 ^ pair_mark) (2 ^ rest_mark) (omega arith) (omega arith) })
-
-pub negated_needs : {k : Negation} {A B C : SetVar} {t : Term} {w : ℕ} → w ≡ 2 ^ split_mark → NeedsOf (negation k A B C t) w
-negated_needs q = rw q (nothing_needed (2 ^ split_mark) (omega arith) (λ j k. refl) (λ j. refl) (λ j v. bit_own split_mark))
 
 pub listed_needs : (k : Entries) {A : CodedSet} → A.0 < most_sets → {v w x : ℕ} → v ≡ 2 ^ A.0 → w ≡ 2 ^ rest_mark → x ≡ 2 ^ split_mark → (es : Bor (List ℕ)) → NeedsOf (decoded (Listed k A es)) (bit_or (bit_or v w) x)
 listed_needs Written {A} l p q r es = rw (p, q, r) (list_needs A.0 l (λ j k. refl) (λ j. refl))

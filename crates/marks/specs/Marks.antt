@@ -1,5 +1,5 @@
--- The literals that a constraint's rules need, as bits, and how the words by mark are marked with them.
-use Rattle.std.specs.Prelude.{◌≡◌, true, ◌&&◌, ◌||◌, List, ℕ, ◌^◌, ◌<◌, get_or, eqb}
+-- The literals that a constraint's rules need, and its other marks, as bits.
+use Rattle.std.specs.Prelude.{◌≡◌, true, ℕ, ◌^◌, ◌<◌}
 use Rattle.calculus.specs.Lists.{bit}
 use Rattle.calculus.specs.Meaning.{Constraint}
 use Rattle.places.specs.Places.{split_span, InSpan, RuleOf}
@@ -24,7 +24,3 @@ pub record NeedsOf (l : Constraint) (word : ℕ) : Type 0 where
   pub rules : (j : ℕ) → RuleOf l j → RuleNeeds l j word
   pub splits : (j : ℕ) → InSpan (split_span l) j → bit word split_mark ≡ true
   pub small : word < 2 ^ mark_count
-
--- Bit i is set in the words of these literals, and nothing else changes.
-abbrev pub Marked : (literals i : ℕ) (before after : List ℕ) → Type 0
-Marked literals i before after = (k m : ℕ) → bit (get_or after k 0) m ≡ (bit (get_or before k 0) m || (bit literals k && eqb m i))

@@ -3,21 +3,23 @@
 
 mod prepared;
 
-ghost use Rattle.std.specs.Prelude.{◌≡◌, ◌^◌, ◌<◌};
-ghost use Rattle.calculus.specs.Limits.{most_sets, most_constraints, most_terms};
+ghost use Rattle.std.specs.Prelude.{◌≡◌, ◌&&◌, ℕ, ◌<◌, get_or};
+ghost use Rattle.calculus.specs.Limits.{most_sets, most_terms};
+ghost use Rattle.calculus.specs.Lists.{up_from, any, bit};
 ghost use Rattle.calculus.specs.Invariants.{ConstraintIn};
 ghost use Rattle.constraints.specs.Decoded.{decoded};
+ghost use Rattle.branch.specs.Rows.{literals, literal_count};
 ghost use Rattle.rules.specs.Rows.{HasRow};
-ghost use Rattle.quiet.specs.Quiet.{mark_count};
-ghost use Rattle.marks.specs.Marks.{Premised, NeedsOf, Marked};
+ghost use Rattle.marks.specs.Marks.{Premised, NeedsOf};
 
-use bits::{Ones, bit_at};
+use bits::{bit_at, gathered, turn_words};
+use branch::literals_of;
 use constraints::{Constraint, Operands, decode};
 use fits::entry_bits;
 pub use prepared::Prepared;
 use problem::Problem;
 use rules::{row_of, span_of, split_of};
-use terms::{LITERALS, MOST_CONSTRAINTS, SetVar};
+use terms::{LITERALS, MOST_CONSTRAINTS, Mask, SetVar};
 
 // Marks of a constraint beside the literals that it needs: a rule of it needs two facts of one class; it may rest; it has a split.
 pub const PAIR: u8 = LITERALS as u8;
@@ -67,16 +69,6 @@ fn needed(l: &Constraint) -> u64
     }
 }
 
-// Bit i is set in the words of some literals, and other marks, each in its own.
-fn mark(marks: &mut [u64; MARKS], literals: u64, i: u8)
-    requires { (literals < 2 ^ mark_count) × (i < most_constraints) }
-    ensures { Marked literals i marks.old marks.new }
-{
-    for k in Ones(literals) {
-        marks[k as usize] |= bit_at(i);
-    }
-}
-
 // What is looked up in a run of a problem.
 pub fn prepare<'a>(problem: &Problem<'a>) -> Prepared<'a>
     ensures { (result.problem.bytes.now ≡ problem.now.bytes.now) × (result.problem.table ≡ problem.now.table) }
@@ -87,11 +79,18 @@ pub fn prepare<'a>(problem: &Problem<'a>) -> Prepared<'a>
         let n = i as usize;
         let l = decode(problem, n);
         entries[n] = entry_bits(l.entries());
-        mark(&mut marks, needed(&l), i);
+        turn_words(&mut marks, needed(&l), bit_at(i), 0);
     }
     Prepared {
         problem: *problem,
         entries,
         marks,
     }
+}
+
+// The constraints, as bits, that need a literal of the masks.
+pub fn woken(marks: &[u64; MARKS], ins: Mask, outs: Mask) -> u64
+    ensures { (i : ℕ) → bit result i ≡ any (λ k. bit (literals ins outs) k && bit (get_or marks.now k 0) i) (up_from 0 literal_count) }
+{
+    gathered(marks, literals_of(ins, outs) as u64)
 }

@@ -13,11 +13,11 @@ use Rattle.calculus.specs.Lists.{up_from, keep, first, gather, Each}
 use Rattle.calculus.specs.Terms.{Term, SetVar, term}
 use Rattle.calculus.specs.Relations.{Rule, Literal, Relation, equal, union, disjoint, subset, intersection, Operand, applies, propagation, propagation_rows, split_rows, negation_row, operand_of}
 use Rattle.calculus.specs.Meaning.{Constraint, member, nonmember, same, different, relation, negation, exactly, interval}
-use Rattle.calculus.specs.Branch.{Branch, walk, root_at, root, In, Out, Same, known}
+use Rattle.calculus.specs.Branch.{Branch, root_at, root, In, Out, Same, known}
 use Rattle.calculus.specs.Invariants.{Falls, ConstraintIn}
 use Rattle.calculus.specs.Search.{Move, at, at_roots, choose, roots_of}
 use Rattle.calculus.proofs.Bools.{each_imp, first_some}
-use Rattle.calculus.proofs.Walk.{walk_le, walk_root, root_walk}
+use Rattle.calculus.proofs.Walk.{walk_le, root_root}
 use Rattle.calculus.proofs.Sequences.{up_each, keep_each}
 use Rattle.places.specs.Places.{span_of, InSpan, RuleOf, row_of, list_move, move_at, entries_of, roots, positions, first_at, offers}
 
@@ -132,17 +132,13 @@ module _ (n : ℕ) (b : Branch) where
     unfolding root_at
     root_le t = walk_le b.parents fall t t
 
-    root_root : (t : ℕ) → root_at b (root_at b t) ≡ root_at b t
-    unfolding root_at
-    root_root t = walk_root b.parents fall (walk t b.parents t) (root_walk b.parents fall t)
-
     module _ (N m : ℕ) (le : n ≤ N) where
       -- p is a root below N, and it is the root concerned
       abbrev Concerned : (ℕ → Term × Move) → ℕ → Type 0
       Concerned f p = (p < N) × (root_at b p ≡ p) × ((f p).0 ≡ term p)
 
       one_root : (t : Term) (v : Move) → t.index < N → Each (Concerned (λ _. (root b t, v))) (root_at b t.index ∷ [])
-      one_root t v l = ((omega (arith, root_le t.index), root_root t.index, refl), tt)
+      one_root t v l = ((omega (arith, root_le t.index), root_root b fall t.index, refl), tt)
 
       all_roots : (v : ℕ → Move) → Each (Concerned (λ p. (term p, v p))) (roots n b)
       all_roots v = each_imp (λ p. (p < N) × (eqb (root_at b p) p ≡ true)) (Concerned (λ p. (term p, v p))) (roots n b) (λ p q. (q.0, eqb-true (root_at b p) p q.1, refl))

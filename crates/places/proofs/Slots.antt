@@ -10,18 +10,18 @@ use lib.ListN.{length}
 use borrow.Author.Tests.{eq-eqb, ne_eqb}
 use Rattle.calculus.specs.Lists.{up_from, picked, Each, Some}
 use Rattle.calculus.specs.Terms.{Term, SetVar, term}
-use Rattle.calculus.specs.Relations.{Rule, Literal, Operand, Relation, equal, union, disjoint, subset, intersection, unequal, negation_row, operand_of}
-use Rattle.calculus.specs.Relations as R
+use Rattle.calculus.specs.Relations.{Relation, equal, union, disjoint, subset, intersection, unequal, negation_row, operand_of}
 use Rattle.calculus.specs.Meaning.{Constraint, member, nonmember, same, different, relation, negation, exactly, interval}
 use Rattle.calculus.specs.Branch.{Branch, root, Fact, Same, assert, assert_all}
 use Rattle.calculus.specs.Order.{Ranged}
 use Rattle.calculus.specs.Invariants.{WellFormed, ConstraintIn}
-use Rattle.calculus.specs.Search.{fact_of, at, distinct, children}
-use Rattle.calculus.proofs.Bools.{each_is_all, each_imp, each_map}
+use Rattle.calculus.specs.Search.{distinct, children}
+use Rattle.calculus.proofs.Bools.{each_imp, each_map}
 use Rattle.calculus.proofs.Sequences.{up_at, each_at}
 use Rattle.calculus.proofs.Asserting.{below}
 use Rattle.calculus.proofs.Children.{asserts_fit}
-use Rattle.calculus.proofs.AddingFacts.{each_distinct}
+use Rattle.calculus.proofs.RuleLaws.{operand_in}
+use Rattle.calculus.proofs.AddingFacts.{row_in, each_distinct}
 use Rattle.calculus.proofs.WorkOrder.{some_each}
 use Rattle.places.specs.Places.{propagation_span, InSpan, RuleOf, row_of, list_move, move_at, entries_of}
 use Rattle.places.specs.Alternatives.{slots_of, class_child, child_of}
@@ -84,20 +84,6 @@ module _ (n m : ℕ) where
   abbrev InRange : List (List Fact) → Type 0
   InRange gs = Each (λ g. Each (Ranged n m) g) gs
 
-  pub operand_in : (A B C : SetVar) → (A.index < m) × (B.index < m) × (C.index < m) → (o : Operand) → (operand_of A B C o).index < m
-  operand_in A B C l R.A = l.0
-  operand_in A B C l R.B = l.1
-  operand_in A B C l R.C = l.2
-
-  -- a row of the tables at a term
-  row_in : (h : Term) (s : Operand → SetVar) → h.index < n → ((o : Operand) → (s o).index < m) → (r : Rule Literal) → InRange (at h s r).alternatives
-  row_in h s l q r = each_map (λ g. Each (Ranged n m) g) (map (fact_of h s)) r.alternatives
-      (each_is_all (λ g. Each (Ranged n m) (map (fact_of h s) g)) (λ g. each_map (Ranged n m) (fact_of h s) g (each_is_all (λ x. Ranged n m (fact_of h s x)) fact_in g)) r.alternatives)
-    where
-      fact_in : (x : Literal) → Ranged n m (fact_of h s x)
-      fact_in (R.In o) = (l, q o)
-      fact_in (R.Out o) = (l, q o)
-
   module _ (constants : List Term) (b : Branch) (F : WellFormed n constants b) where
     classes_in : (es : List Term) (p : ℕ) → Each (λ e. e.index < n) es → p < n → InRange (map (λ (e : Term). Same (term p) e ∷ []) (distinct (map (root b) es)))
     classes_in es p i l = each_map (λ g. Each (Ranged n m) g) (λ (e : Term). Same (term p) e ∷ []) (distinct (map (root b) es))
@@ -118,8 +104,8 @@ module _ (n m : ℕ) where
     alternatives_in (nonmember t A) j p c r x y = ((c, tt), tt)
     alternatives_in (same t u) j p c r x y = ((c, tt), tt)
     alternatives_in (different t u) j p c r x y = tt
-    alternatives_in (relation k A B C) j p c r x y = row_in (term p) (operand_of A B C) (y (relation_19 k A B C j r)) (operand_in A B C c) (row_of k j)
-    alternatives_in (negation k A B C w) j p c r x y = row_in w (operand_of A B C) c.1 (operand_in A B C c.0) (negation_row k)
+    alternatives_in (relation k A B C) j p c r x y = row_in (term p) (operand_of A B C) (y (relation_19 k A B C j r)) (operand_in (λ (X : SetVar). X.index < m) c) (row_of k j)
+    alternatives_in (negation k A B C w) j p c r x y = row_in w (operand_of A B C) c.1 (operand_in (λ (X : SetVar). X.index < m) c.0) (negation_row k)
     alternatives_in (exactly A es) j p c r x y = list_in A es j p c.0 c.1 x y
     alternatives_in (interval A u v es) j p c r x y = list_in A es j p c.0 c.1 x y
 

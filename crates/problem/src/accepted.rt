@@ -1,7 +1,5 @@
 // A problem that was accepted: its bytes and its table, and what is read through it.
 ghost use Rattle.std.specs.Prelude.{◌≡◌, map, ◌+◌, ◌≤◌, ◌<◌, get_or, drop, length};
-ghost use Rattle.calculus.specs.Limits.{most_terms};
-ghost use Rattle.calculus.specs.Lists.{up_from};
 ghost use Rattle.calculus.specs.Reading.{signed};
 ghost use Rattle.calculus.specs.Terms.{term, set_var};
 ghost use Rattle.calculus.specs.Meaning.{exactly};
@@ -9,16 +7,13 @@ ghost use Rattle.problem.specs.Table.{Opened, kind_of, line_of, constant_of, con
 
 use crate::table::Table;
 use slices::word;
-use terms::{MOST_TERMS, Term};
+use terms::Term;
 
-// The numbers of all terms stand beside it: an interval's entries are a part of them. There is no heap: they are an array, as the table's lines are.
 #[derive(Clone, Copy)]
 pub struct Problem<'a> {
     pub bytes: &'a [u8],
     pub table: Table,
-    pub numbers: [u8; MOST_TERMS],
     pub ghost opened: { Opened bytes.now table },
-    pub ghost upward: { numbers ≡ up_from 0 most_terms },
 }
 
 impl<'a> Problem<'a> {

@@ -13,7 +13,6 @@ ghost use Rattle.problem.specs.Table.{TableOf};
 pub use accepted::Problem;
 use questions::{Names, Refusal};
 use sections::{constants_at, constraints_at, sets_at, variables_at};
-use slices::term_numbers;
 pub use table::{Line, Table};
 use terms::{MOST_BYTES, MOST_CONSTRAINTS, MOST_TERMS};
 
@@ -48,7 +47,6 @@ pub fn read(bytes: &[u8]) -> Result<Problem, Refusal>
         return Err(Refusal::TooManyTerms);
     }
     let lines = found.lines;
-    let numbers = term_numbers();
     let table = Table {
         constants: k as u8,
         variables: variables.len() as u8,
@@ -57,9 +55,5 @@ pub fn read(bytes: &[u8]) -> Result<Problem, Refusal>
         terms: found.terms as u8,
         lines,
     };
-    Ok(Problem {
-        bytes,
-        table,
-        numbers,
-    })
+    Ok(Problem { bytes, table })
 }

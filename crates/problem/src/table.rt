@@ -2,6 +2,7 @@
 use terms::{MOST_CONSTRAINTS, Term};
 
 // Where a constraint's kind byte stands, and the number of its witness; where it has none, of the next one.
+// A place and no slice: so a line takes few bytes, and copying the table costs little.
 #[derive(Clone, Copy)]
 pub struct Line {
     pub at: u16,

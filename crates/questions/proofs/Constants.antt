@@ -1,24 +1,24 @@
--- The constants of a problem, one by one: each is two bytes at its place, and is raised to the number that the code compares.
+-- The constants of a problem, one by one: each is two bytes at its place. Of those that rise, the two ends tell question 9.
 use mathlib.Core.Path.{◌≡◌, refl, sym, ap, ap₂, ◌∙◌}
-use mathlib.Core.Bool.{Bool, ◌&&◌}
+use mathlib.Core.Bool.{Bool, true, false, ◌&&◌, false≢true}
 use mathlib.Core.List.{List, [], ◌∷◌}
 use Prim.Native.Nat.{ℕ, zero, suc, ◌+◌, ◌*◌, ◌-◌, ◌/◌, ◌<◌, ◌≤◌}
 use native.Mathlib.Omega.{arith}
-use native.Mathlib.Decide.{ℕ_discrete}
 use lib.ListN.{length, get_or, take, drop, length-take, length-drop}
 use lib.Seq.{get_or-take, get_or-drop}
 use lib.Dec.{eqb}
-use lib.IntN.{ℤ, pos, suc_ℤ}
-use lib.Signed.{◌<ℤ◌, lt_z}
-use borrow.Author.Tests.{eq-eqb, ne_eqb, ltb-true}
+use lib.IntN.{ℤ, pos, negsuc, suc_ℤ, ◌+ℤ◌, ◌-ℤ◌}
+use lib.Signed.{◌<ℤ◌, ◌≤ℤ◌}
+use borrow.Author.Tests.{eq-eqb, eqb-true, ne_eqb}
+use Rattle.std.specs.Int.RustNames.{unsigned_abs}
+use Rattle.std.proofs.lemmas.Int.{ints}
 use Rattle.calculus.specs.Lists.{all, up_from}
 use Rattle.calculus.specs.Problem.{Rising}
 use Rattle.calculus.specs.Reading.{signed, words, eq_z, gapless}
-use Rattle.calculus.proofs.Integers.{passed}
-use Rattle.slices.specs.Bytes.{bytes_at, raised_at, word_at}
-use Rattle.slices.proofs.Parts.{AllBytes, bytes_fit, raised_small}
+use Rattle.calculus.proofs.Bools.{same_test}
+use Rattle.calculus.proofs.Membership.{eq_z_eq, eq_eq_z}
+use Rattle.slices.specs.Bytes.{word_at}
 use Rattle.slices.proofs.TwoBytes.{word_read}
-use Rattle.slices.proofs.SignedWords.{raised_next, raised_order}
 use Rattle.questions.specs.Questions.{constant_at, constants_of}
 
 -- ---- how many numbers bytes are
@@ -43,13 +43,15 @@ module _ (bs : List ℕ) where
 
 -- ---- question 9: of rising constants, by the two ends
 
-module _ (bs : List ℕ) (known : AllBytes bs) (up : Rising (words bs)) where
-  -- the code's number of constant p
-  abbrev At : ℕ → ℕ
-  At p = raised_at bs (2 * p)
+next : (x : ℤ) → suc_ℤ x ≡ x +ℤ pos 1
+next (pos n) = omega (arith, ints)
+next (negsuc zero) = refl
+next (negsuc (suc n)) = omega (arith, ints)
 
-  abbrev word : ℕ → ℕ
-  word p = bytes_at bs (2 * p)
+module _ (bs : List ℕ) (up : Rising (words bs)) where
+  -- constant p
+  abbrev At : ℕ → ℤ
+  At p = word_at bs (2 * p)
 
   -- constant p is there
   abbrev There : ℕ → Type 0
@@ -59,43 +61,34 @@ module _ (bs : List ℕ) (known : AllBytes bs) (up : Rising (words bs)) where
   abbrev follows : ℕ → Bool
   follows p = eq_z (get_or (words bs) (suc p) (pos 0)) (suc_ℤ (get_or (words bs) p (pos 0)))
 
-  follows_raised : (p : ℕ) → There (suc p) → follows p ≡ eqb (At (suc p)) (suc (At p))
-  unfolding raised_at
-  follows_raised p l =
-      ap₂ (λ (x y : ℤ). eq_z x (suc_ℤ y)) (word_read bs (suc p) l) (word_read bs p (omega arith))
-      ∙ sym (raised_next (word p) (word (suc p)) (bytes_fit bs known (2 * p)) (bytes_fit bs known (2 * suc p)))
-
-  rises : (p : ℕ) → There (suc p) → At p < At (suc p)
-  unfolding raised_at
-  rises p l =
-      let u : word_at bs (2 * p) <ℤ word_at bs (2 * suc p) = rw (word_read bs p (omega arith), word_read bs (suc p) l) at (up p (suc p) (omega arith) (omega (arith, words_count bs))) in
-      ltb-true (At p) (At (suc p)) (raised_order (word p) (word (suc p)) (bytes_fit bs known (2 * p)) (bytes_fit bs known (2 * suc p))
-      ∙ passed (lt_z (word_at bs (2 * p)) (word_at bs (2 * suc p))) u.lt)
+  rises : (p : ℕ) → There (suc p) → At p <ℤ At (suc p)
+  rises p l = rw (word_read bs p (omega arith), word_read bs (suc p) l) at (up p (suc p) (omega arith) (omega (arith, words_count bs)))
 
   -- d places on, a value is at least d higher
-  climbs : (d i : ℕ) → There (i + d) → At i + d ≤ At (i + d)
-  climbs zero i l = let e : i + 0 ≡ i = omega arith in rw e (omega arith)
-  climbs (suc d) i l = let e : i + suc d ≡ suc i + d = omega arith in rw e (omega (arith, climbs d (suc i) (omega arith), rises i (omega arith)))
+  climbs : (d i : ℕ) → There (i + d) → (At i +ℤ pos d) ≤ℤ At (i + d)
+  climbs zero i l = let e : i + 0 ≡ i = omega arith in rw e (omega (arith, ints))
+  climbs (suc d) i l = let e : i + suc d ≡ suc i + d = omega arith in rw e (omega (arith, ints, climbs d (suc i) (omega arith), rises i (omega arith)))
 
-  pub ends_fit : (i j : ℕ) → i < j → There j → At i + (j - i) < 65536
-  ends_fit i j l h = let e : i + (j - i) ≡ j = omega arith in omega (arith, rw e at (climbs (j - i) i (omega arith)), raised_small bs (2 * j))
-
-  by_ends : (d i : ℕ) → There (i + d) → eqb (At (i + d)) (At i + d) ≡ all follows (up_from i d)
-  by_ends zero i l = let e : i + 0 ≡ i = omega arith in rw e (eq-eqb (At i) (At i + 0) (omega arith))
+  by_ends : (d i : ℕ) → There (i + d) → eqb (unsigned_abs (At (i + d) -ℤ At i)) d ≡ all follows (up_from i d)
+  by_ends zero i l = let e : i + 0 ≡ i = omega arith in rw e (eq-eqb (unsigned_abs (At i -ℤ At i)) 0 (omega (arith, ints)))
   by_ends (suc d) i l =
       let e : i + suc d ≡ suc i + d = omega arith in
-      let c = climbs d (suc i) (omega arith) in
-      let r = rises i (omega arith) in
-      ap (λ (p : ℕ). eqb (At p) (At i + suc d)) e
-      ∙ both (At (suc i + d)) (At (suc i)) (At i) d c r
-      ∙ ap₂ (λ (x y : Bool). x && y) (sym (follows_raised i (omega arith))) (by_ends d (suc i) (omega arith))
+      ap (λ (p : ℕ). eqb (unsigned_abs (At p -ℤ At i)) (suc d)) e
+      ∙ both (At (suc i + d)) (At (suc i)) (At i) d (climbs d (suc i) (omega arith)) (rises i (omega arith))
+      ∙ ap₂ (λ (x y : Bool). x && y) (sym (ap₂ (λ (x y : ℤ). eq_z x (suc_ℤ y)) (word_read bs (suc i) (omega arith)) (word_read bs i (omega arith)))) (by_ends d (suc i) (omega arith))
     where
-      both : (z y x d : ℕ) → y + d ≤ z → x < y → eqb z (x + suc d) ≡ (eqb y (suc x) && eqb z (y + d))
-      both z y x d c r = go (ℕ_discrete y (suc x))
+      both : (z y x : ℤ) (d : ℕ) → (y +ℤ pos d) ≤ℤ z → x <ℤ y → eqb (unsigned_abs (z -ℤ x)) (suc d) ≡ (eq_z y (suc_ℤ x) && eqb (unsigned_abs (z -ℤ y)) d)
+      both z y x d c r = go (eq_z y (suc_ℤ x)) refl
         where
-          go : Dec (y ≡ suc x) → eqb z (x + suc d) ≡ (eqb y (suc x) && eqb z (y + d))
-          go (yes e) = let f : x + suc d ≡ y + d = omega arith in rw (f, eq-eqb y (suc x) e) refl
-          go (no n) = rw (ne_eqb y (suc x) n) (ne_eqb z (x + suc d) (λ q. n (omega arith)))
+          go : (t : Bool) → eq_z y (suc_ℤ x) ≡ t → eqb (unsigned_abs (z -ℤ x)) (suc d) ≡ (t && eqb (unsigned_abs (z -ℤ y)) d)
+          go true e =
+              let q : y ≡ x +ℤ pos 1 = eq_z_eq y (suc_ℤ x) e ∙ next x in
+              let f : unsigned_abs (z -ℤ x) ≡ suc (unsigned_abs (z -ℤ y)) = omega (arith, ints, q, c) in
+              same_test (eqb (unsigned_abs (z -ℤ x)) (suc d)) (eqb (unsigned_abs (z -ℤ y)) d) (λ h. eq-eqb _ _ (omega (arith, f, eqb-true _ _ h))) (λ h. eq-eqb _ _ (omega (arith, f, eqb-true _ _ h)))
+          go false e =
+              ne_eqb (unsigned_abs (z -ℤ x)) (suc d) (λ q.
+              let h : y ≡ x +ℤ pos 1 = omega (arith, ints, c, r, q) in
+              false≢true (sym e ∙ eq_eq_z y (suc_ℤ x) (h ∙ sym (next x))))
 
-  pub between : (i j : ℕ) → i < j → There j → eqb (At j) (At i + (j - i)) ≡ gapless (words bs) i j
+  pub between : (i j : ℕ) → i < j → There j → eqb (unsigned_abs (At j -ℤ At i)) (j - i) ≡ gapless (words bs) i j
   between i j l h = let e : i + (j - i) ≡ j = omega arith in rw e at (by_ends (j - i) i (omega arith))

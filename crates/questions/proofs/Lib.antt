@@ -1,5 +1,5 @@
 pub mod Answers
 pub mod Constants
-pub mod Rises
+pub mod Letters
 pub mod Parts
 pub mod Returns

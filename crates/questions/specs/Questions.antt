@@ -2,7 +2,7 @@
 use Rattle.std.specs.Prelude.{◌≡◌, ◌&&◌, cond, List, [], ◌∷◌, ℕ, ◌+◌, ◌*◌, ◌-◌, length, get_or, take, drop, zip, ltb, leb, ℤ, Result, Ok, Err}
 use Rattle.std.specs.List.{list_all}
 use Rattle.calculus.specs.Meaning.{Constraint}
-use Rattle.calculus.specs.Problem.{uses, Rising}
+use Rattle.calculus.specs.Problem.{uses}
 use Rattle.calculus.specs.Reading as reading
 use Rattle.calculus.specs.Reading.{words, gapless}
 use Rattle.slices.specs.Bytes.{word_at}
@@ -20,10 +20,6 @@ constant_at bs p = word_at bs (1 + 2 * p)
 -- the first k constants of a problem
 unfoldable pub constants_of : List ℕ → ℕ → List ℤ
 constants_of bs k = words (take (2 * k) (drop 1 bs))
-
--- question 3 was passed
-abbrev pub ConstantsRise : List ℕ → ℕ → Type 0
-ConstantsRise bs k = Rising (constants_of bs k)
 
 -- ---- a constraint: refused by a question, or how many bytes and witnesses it has
 

@@ -15,7 +15,7 @@ ghost use Rattle.questions.specs.Questions.{operands_at, list_at, interval_at, k
 pub use kind::Kind;
 pub use names::Names;
 pub use refusal::Refusal;
-use slices::{raised, rising};
+use slices::{ascends, signed};
 use std::ops::RangeInclusive;
 
 // How many bytes a constraint has, and how many witnesses.
@@ -29,7 +29,11 @@ pub struct Scanned {
 pub fn constants_ok(constants: &[u8]) -> bool
     ensures { result ≡ (ascending (words constants.now) && in_range (words constants.now)) }
 {
-    rising(constants, 768..=64768)
+    let pairs = constants.as_chunks::<2>().0;
+    ascends(constants)
+        && pairs
+            .iter()
+            .all(|c| (-32_000..=32_000).contains(&i16::from_le_bytes(*c)))
 }
 
 // Questions 4 and 5: strictly ascending letters of a range.
@@ -37,14 +41,7 @@ pub fn letters_ok(part: &[u8], range: RangeInclusive<u8>) -> bool
     ensures { result ≡ letters (range_inclusive_start range) (range_inclusive_end range) part.now }
 {
     let (lo, hi) = range.into_inner();
-    let mut least = lo as usize;
-    for &letter in part {
-        if (letter as usize) < least || hi < letter {
-            return false;
-        }
-        least = letter as usize + 1;
-    }
-    true
+    part.is_sorted_by(|a, b| *a < *b) && part.iter().all(|c| lo <= *c && *c <= hi)
 }
 
 // Question 9, of rising constants: from constant i to constant j the value rises by as much as the place.
@@ -55,9 +52,9 @@ fn gapless_ok(constants: &[u8], i: usize, j: usize) -> bool
     if j <= i {
         return true;
     }
-    let lo = raised(constants, 2 * i);
-    let hi = raised(constants, 2 * j);
-    hi == lo + (j - i) as u32
+    let lo = signed(constants, 2 * i);
+    let hi = signed(constants, 2 * j);
+    hi.abs_diff(lo) as usize == j - i
 }
 
 // Operands, each below its bound: how many bytes they have.

@@ -1,6 +1,5 @@
 // What a constraint of a problem can name.
-ghost use Rattle.std.specs.Prelude.{◌*◌, ◌≤◌, ◌<◌, length};
-ghost use Rattle.calculus.specs.Limits.{most_sets};
+ghost use Rattle.std.specs.Prelude.{◌<◌};
 ghost use Rattle.calculus.specs.Problem.{Rising};
 ghost use Rattle.calculus.specs.Reading.{words};
 
@@ -11,7 +10,5 @@ pub struct Names<'a> {
     pub nameable: usize,
     pub sets: usize,
     ghost rising: { Rising (words constants.now) },
-    ghost few_constants: { length constants.now < 512 },
     ghost few_terms: { nameable < 512 },
-    ghost few_sets: { sets ≤ most_sets },
 }

@@ -12,7 +12,7 @@ use borrow.Author.Tests.{eqb-true, eq-eqb, ltb-false}
 use Rattle.calculus.specs.Lists.{all, any, bit, Each}
 use Rattle.calculus.specs.Relations.{Rule, applies}
 use Rattle.calculus.specs.Branch.{Branch, root_at}
-use Rattle.calculus.proofs.Bools.{and_l, and_r, and_i, or_cases, or_l, or_r, not_f, test, each_all, all_each, each_imp, each_zip}
+use Rattle.calculus.proofs.Bools.{and_l, and_r, and_i, or_cases, or_l, or_r, not_f, test, each_all, all_each, any_imp, each_imp, each_zip}
 use Rattle.calculus.proofs.Walk.{moved, moved_hi, moved_other}
 use Rattle.branch.specs.Rows.{literal_known}
 use Rattle.quiet.proofs.Sayings.{Saying, literal, holds, says}
@@ -37,12 +37,7 @@ moved_none h t = go (ℕ_discrete t h)
     go (no e) = moved_other h h t e
 
 any_all : {X : Type 0} (p q : X → Bool) → ((x : X) → p x ≡ true → q x ≡ true) → (gs : List (List X)) → any (all p) gs ≡ true → any (all q) gs ≡ true
-any_all p q f [] e = e
-any_all p q f (g ∷ gs) e = go (or_cases (all p g) (any (all p) gs) e) (any_all p q f gs)
-  where
-    go : (all p g ≡ true) ⊎ (any (all p) gs ≡ true) → (any (all p) gs ≡ true → any (all q) gs ≡ true) → any (all q) (g ∷ gs) ≡ true
-    go (inl h) ih = or_l (any (all q) gs) (all_each q g (each_imp (λ x. p x ≡ true) (λ x. q x ≡ true) g f (each_all p g h)))
-    go (inr h) ih = or_r (all q g) (ih h)
+any_all p q f gs = any_imp (all p) (all q) gs (λ g h. all_each q g (each_imp (λ x. p x ≡ true) (λ x. q x ≡ true) g f (each_all p g h)))
 
 module _ {b c : Branch} {lo hi word : ℕ} (g : Grows b c lo hi word) where
   -- a root was one before

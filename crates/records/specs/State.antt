@@ -7,6 +7,7 @@ use Rattle.calculus.specs.Calls.{over}
 use Rattle.slices.specs.Bytes.{put_at}
 use Rattle.records.specs.declared.Counts.{Counts}
 use Rattle.records.specs.declared.Output.{Output}
+use Rattle.records.specs.declared.Step.{Step}
 use Rattle.records.specs.declared.Stop.{Stop}
 use Rattle.records.specs.declared.Stop.TheVariants.{Spent, NoRoom}
 
@@ -45,6 +46,10 @@ unfoldable pub with_form : ℕ → List ℕ → State → State
 with_form n r s = cond (leb (record_length n * s.counts.forms + record_length n) (length s.forms))
     (state (counts_of s.counts.steps (suc s.counts.forms)) DONE (put_at s.forms (record_length n * s.counts.forms) r) s.trace)
     (state s.counts NOROOM s.forms s.trace)
+
+-- the four bytes of a step
+abbrev pub bytes_of : Step → List ℕ
+bytes_of s = s.rule ∷ s.constraint ∷ s.root.0 ∷ s.children ∷ []
 
 -- a step is written and counted; and that only if the budget has one left
 abbrev pub wrote_step : List ℕ → State → State

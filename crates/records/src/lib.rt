@@ -1,16 +1,17 @@
 // What a run writes: records of solved forms and of steps, and the counts.
 #![tactic(auto)]
 
-ghost use Rattle.std.specs.Prelude.{◌≡◌, [], ◌∷◌, ◌+◌, ◌*◌, ◌≤◌, ◌<◌, ◌≢◌, length};
+ghost use Rattle.std.specs.Prelude.{◌≡◌, ◌+◌, ◌*◌, ◌≤◌, ◌<◌, ◌≢◌, length};
 ghost use Rattle.calculus.specs.Limits.{most_terms};
 ghost use Rattle.calculus.specs.Run.{DONE};
 ghost use Rattle.calculus.specs.Forms.{record_of, record_length};
 ghost use Rattle.calculus.specs.Invariants.{Falls};
 ghost use Rattle.branch.specs.Held.{held};
-ghost use Rattle.records.specs.State.{written, with_form, with_step, end_of, SameBuffers};
+ghost use Rattle.records.specs.State.{written, with_form, bytes_of, wrote_step, with_step, end_of, SameBuffers};
 
 use branch::{Branch, record_length};
 use slices::put;
+use terms::Term;
 
 // Why a run stops before its end: the budget is spent, or there is no room for a form.
 #[derive(Clone, Copy, PartialEq, Eq)]
@@ -26,7 +27,16 @@ pub struct Counts {
     pub forms: usize,
 }
 
-// The counts, and the buffers that were lent.
+// A step, as a trace has it: its rule, its constraint, the root concerned and how many children are left.
+#[derive(Clone, Copy)]
+pub struct Step {
+    pub rule: u8,
+    pub constraint: u8,
+    pub root: Term,
+    pub children: u8,
+}
+
+// The counts, and the buffers that were lent: the counts say how much of each is written. There is no heap.
 #[derive(Drop)]
 pub struct Output<'a> {
     pub counts: Counts,
@@ -51,25 +61,27 @@ impl Output<'_> {
         Ok(())
     }
 
-    // Writes a step into the trace and counts it, if the budget has one left: its rule, constraint, root concerned and children left.
-    pub fn write_step(
-        &mut self,
-        budget: usize,
-        rule: u8,
-        constraint: u8,
-        root: u8,
-        children: u8,
-    ) -> Result<(), Stop>
+    // Writes a step into the trace and counts it.
+    pub fn write_step(&mut self, step: Step)
+        requires { 4 * self.old.counts.steps + 4 ≤ length self.old.trace.now }
+        ensures writes { written self.new DONE ≡ wrote_step (bytes_of step) (written self.old DONE) }
+        ensures same_buffers { SameBuffers self.old self.new }
+    {
+        let bytes = [step.rule, step.constraint, step.root.0, step.children];
+        put(&bytes, self.trace, 4 * self.counts.steps);
+        self.counts.steps += 1;
+    }
+
+    // The same, if the budget has a step left.
+    pub fn take_step(&mut self, budget: usize, step: Step) -> Result<(), Stop>
         requires { self.old.counts.steps ≢ budget → 4 * self.old.counts.steps + 4 ≤ length self.old.trace.now }
-        ensures writes { written self.new (end_of result) ≡ with_step budget (rule ∷ constraint ∷ root ∷ children ∷ []) (written self.old DONE) }
+        ensures writes { written self.new (end_of result) ≡ with_step budget (bytes_of step) (written self.old DONE) }
         ensures same_buffers { SameBuffers self.old self.new }
     {
         if self.counts.steps == budget {
             return Err(Stop::Spent);
         }
-        let bytes = [rule, constraint, root, children];
-        put(&bytes, self.trace, 4 * self.counts.steps);
-        self.counts.steps += 1;
+        self.write_step(step);
         Ok(())
     }
 }

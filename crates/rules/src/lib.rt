@@ -11,11 +11,11 @@ use constraints::{Constraint, Negation, Operands, Relation};
 use std::ops::Range;
 use terms::{OUT, SetVar, Term};
 
-// A literal, by its number: k is "in set k", OUT + k is "out of set k".
+// A literal, by its number, which is also that of a branch's row: k is "in set k", OUT + k is "out of set k".
 #[derive(Clone, Copy)]
 pub struct Literal(pub u8);
 
-// A propagation rule, at any class: two literals that it needs known (the same twice, if it needs but one), and the one that it gives.
+// A propagation rule, at any class: two literals that it needs known (the same twice, if it needs but one), and the one that it gives. A row, a child and a denial repeat what they have too few of, so that one test serves all, with no if; with an Option each use would match.
 #[derive(Clone, Copy)]
 pub struct Row(pub Literal, pub Literal, pub Literal);
 
@@ -31,7 +31,7 @@ pub struct Child(pub Literal, pub Literal, pub Literal);
 #[derive(Clone, Copy)]
 pub struct Denial(pub Child, pub Child, pub Child);
 
-// A rule of a constraint, by its number, and the root that it concerns. The numbers are document 01's: a trace has them as bytes, their order is the order of work, and a constraint's rules are a range of them.
+// A rule of a constraint, by its number, and the root that it concerns. The numbers are document 01's: a trace has them as bytes, their order is the order of work, and a constraint's rules are a range of them. An enum of twenty variants, named by their numbers, would be turned into numbers and back.
 #[derive(Clone, Copy)]
 pub struct Instance<'a> {
     pub constraint: Constraint<'a>,

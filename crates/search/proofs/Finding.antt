@@ -18,11 +18,11 @@ use Rattle.calculus.specs.Limits.{most_sets, most_terms}
 use Rattle.calculus.specs.Lists.{up_from, first, bit}
 use Rattle.calculus.specs.Terms.{Term, term}
 use Rattle.calculus.specs.Meaning as calculus
-use Rattle.calculus.specs.Branch.{Branch, walk, root_at}
+use Rattle.calculus.specs.Branch.{Branch, root_at}
 use Rattle.calculus.specs.Invariants.{Falls, ConstraintIn}
 use Rattle.calculus.specs.Reading.{read}
 use Rattle.calculus.proofs.Bools.{and_l, test}
-use Rattle.calculus.proofs.Walk.{walk_root, root_walk}
+use Rattle.calculus.proofs.Walk.{root_root}
 use Rattle.bits.specs.Ones.{Takes}
 use Rattle.bits.proofs.Bits.{bit_ones, bit_without, no_bit}
 use Rattle.bits.proofs.Taking.{takes_other, takes_left}
@@ -46,20 +46,16 @@ use Rattle.marks.proofs.Marking.{entries_by}
 -- ---- the root concerned
 
 module _ (n : ℕ) (b : Branch) (fall : Falls b.parents) where
-  root_root : (t : ℕ) → root_at b (root_at b t) ≡ root_at b t
-  unfolding root_at
-  root_root t = walk_root b.parents fall (walk t b.parents t) (root_walk b.parents fall t)
-
   -- rule 19 is at the root of an entry
   entry_root : (l : calculus.Constraint) (j p : ℕ) → RuleOf l j → j ≡ 19 → root_at b (move_at b l j p).0.index ≡ (move_at b l j p).0.index
-  entry_root (calculus.member t A) j p r e = root_root t.index
-  entry_root (calculus.nonmember t A) j p r e = root_root t.index
-  entry_root (calculus.same t u) j p r e = root_root t.index
-  entry_root (calculus.different t u) j p r e = root_root t.index
+  entry_root (calculus.member t A) j p r e = root_root b fall t.index
+  entry_root (calculus.nonmember t A) j p r e = root_root b fall t.index
+  entry_root (calculus.same t u) j p r e = root_root b fall t.index
+  entry_root (calculus.different t u) j p r e = root_root b fall t.index
   entry_root (calculus.relation k A B C) j p r e = absurd (relation_19 k A B C j r e)
-  entry_root (calculus.negation k A B C w) j p r e = root_root w.index
-  entry_root (calculus.exactly A es) j p r e = rw (eq-eqb j 19 e) (root_root (get_or es p (term 0)).index)
-  entry_root (calculus.interval A x y es) j p r e = rw (eq-eqb j 19 e) (root_root (get_or es p (term 0)).index)
+  entry_root (calculus.negation k A B C w) j p r e = root_root b fall w.index
+  entry_root (calculus.exactly A es) j p r e = rw (eq-eqb j 19 e) (root_root b fall (get_or es p (term 0)).index)
+  entry_root (calculus.interval A x y es) j p r e = rw (eq-eqb j 19 e) (root_root b fall (get_or es p (term 0)).index)
 
   concerned_root : (l : calculus.Constraint) (j p : ℕ) → n ≤ most_terms → ConstraintIn most_terms most_sets l → RuleOf l j → first_at n b l j ≡ some p → root_at b (move_at b l j p).0.index ≡ (move_at b l j p).0.index
   concerned_root l j p few c r f = go (ℕ_discrete j 19)

@@ -1,6 +1,5 @@
 -- Which constraints of a mask a search leaves out. For splits one is idle that has none. One of kind 4 is idle where its terms are of two classes; a list is, where each entry is a root in its set, or for splits where each root in its set is an entry.
 use mathlib.Core.Path.{◌≡◌, refl, sym, ap, ◌∙◌, subst}
-use mathlib.Core.Logic.{◌⊎◌, inl, inr}
 use mathlib.Core.Bool.{Bool, true, false, ◌&&◌, not, and-true, false≢true}
 use mathlib.Core.Option.{none}
 use mathlib.Core.List.{List, [], ◌∷◌, map}
@@ -20,7 +19,7 @@ use Rattle.calculus.specs.Branch.{Branch, root_at, In, known}
 use Rattle.calculus.specs.Invariants.{ConstraintIn}
 use Rattle.calculus.specs.Search.{choose}
 use Rattle.calculus.specs.Reading.{read}
-use Rattle.calculus.proofs.Bools.{clash, and_l, and_r, or_cases, or_l, or_r, each_imp}
+use Rattle.calculus.proofs.Bools.{clash, and_l, and_r, or_l, or_r, any_map, any_imp, each_imp}
 use Rattle.calculus.proofs.SearchLaws.{first_next, none_found}
 use Rattle.calculus.proofs.Sequences.{up_each, keep_each}
 use Rattle.bits.proofs.Bits.{bit_of_and, bit_pow, bit_without, no_bit}
@@ -56,12 +55,8 @@ bits_apart {x} {y} {r} e z q = clash (ap (λ (m : ℕ). bit m x) e ∙ bit_of_an
 
 -- an entry is in its own class
 entry_holds : (b : Branch) (h : ℕ) → root_at b h ≡ h → (es : List Term) → any (λ (e : Term). eqb e.index h) es ≡ true → any (all (says b h)) (map (λ (e : Term). holds e ∷ []) es) ≡ true
-entry_holds b h r [] t = t
-entry_holds b h r (e ∷ es) t = go (or_cases (eqb e.index h) (any (λ (x : Term). eqb x.index h) es) t) (entry_holds b h r es)
-  where
-    go : (eqb e.index h ≡ true) ⊎ (any (λ (x : Term). eqb x.index h) es ≡ true) → (any (λ (x : Term). eqb x.index h) es ≡ true → any (all (says b h)) (map (λ (x : Term). holds x ∷ []) es) ≡ true) → any (all (says b h)) (map (λ (x : Term). holds x ∷ []) (e ∷ es)) ≡ true
-    go (inl q) ih = or_l (any (all (says b h)) (map (λ (x : Term). holds x ∷ []) es)) (ap (λ (x : Bool). x && true) (eq-eqb h (root_at b e.index) (sym (ap (root_at b) (eqb-true e.index h q) ∙ r))))
-    go (inr q) ih = or_r (says b h (holds e) && true) (ih q)
+entry_holds b h r es t = any_map (all (says b h)) (λ (e : Term). holds e ∷ []) es
+    ∙ any_imp (λ e. eqb e.index h) (λ e. says b h (holds e) && true) es (λ e q. ap (λ (x : Bool). x && true) (eq-eqb h (root_at b e.index) (sym (ap (root_at b) (eqb-true e.index h q) ∙ r)))) t
 
 -- a list and its set, of which a word and a row say the entries and the roots
 module _ (n : ℕ) (b : Branch) (few : n ≤ most_terms) (A : SetVar) (low : A.index < most_sets) (es : List Term) (lines : List ℕ) (of : rows.RowsOf b lines) (word : ℕ) (small : word < 2 ^ 64) (bits : (h : ℕ) → bit word h ≡ any (λ (e : Term). eqb e.index h) es) where

@@ -20,7 +20,7 @@ use marks::{Prepared, REST, SPLIT};
 use rules::{Instance, span_of};
 use terms::Term;
 
-// What a search looks for, propagation rules or splits, and among which constraints, as bits.
+// What a search looks for, propagation rules or splits, and among which constraints, as bits. One search serves both sorts of rules, and hands on to span_of and rests which it is.
 #[derive(Clone, Copy)]
 pub struct Scope {
     pub split: bool,

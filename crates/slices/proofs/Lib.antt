@@ -1,5 +1,4 @@
 pub mod Parts
-pub mod SignedWords
-pub mod RaisedWords
+pub mod Ascending
 pub mod TwoBytes
 pub mod Buffers

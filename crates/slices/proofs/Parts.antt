@@ -1,12 +1,13 @@
 -- Lists filled up with the same; and lists of bytes.
-use mathlib.Core.Path.{◌≡◌, refl}
-use mathlib.Core.List.{List, [], ◌∷◌, ◌++◌}
-use Prim.Native.Nat.{ℕ, zero, suc, ◌+◌, ◌-◌, ◌<◌}
+use mathlib.Core.Path.{◌≡◌, refl, ap, ◌∙◌}
+use mathlib.Core.List.{List, [], ◌∷◌, ◌++◌, map}
+use Prim.Native.Nat.{ℕ, zero, suc, ◌-◌, ◌/◌}
 use native.Mathlib.Omega.{arith}
-use lib.ListN.{length, get_or, take, replicate}
+use lib.ListN.{length, get_or, replicate}
 use mir.Syntax.{w8}
 use mir.Val.{Fits}
-use Rattle.slices.specs.Bytes.{bytes_at, raised_at, filled}
+use Rattle.std.specs.Simd.{first_chunks}
+use Rattle.slices.specs.Bytes.{filled}
 
 -- ---- lists filled up with the same
 
@@ -30,15 +31,12 @@ module _ {A : Type 0} (d : A) where
 abbrev pub AllBytes : List ℕ → Type 0
 AllBytes bs = (i : ℕ) → Fits w8 (get_or bs i 0)
 
-pub take_bytes : (n : ℕ) (bs : List ℕ) → AllBytes bs → AllBytes (take n bs)
-take_bytes zero bs known i = omega arith
-take_bytes (suc n) [] known i = known i
-take_bytes (suc n) (b ∷ bs) known zero = known 0
-take_bytes (suc n) (b ∷ bs) known (suc i) = take_bytes n bs (λ j. known (suc j)) i
-
-pub bytes_fit : (bs : List ℕ) → AllBytes bs → (i : ℕ) → bytes_at bs i < 65536
-bytes_fit bs known i = omega (arith, known i, known (i + 1))
-
-pub raised_small : (bs : List ℕ) (at : ℕ) → raised_at bs at < 65536
-unfolding raised_at
-raised_small bs at = omega arith
+-- what is made of the bytes two by two is made of their pairs
+module _ {A : Type 0} (f : List ℕ → A) (made : List ℕ → List A) (none : made [] ≡ []) (one : (a : ℕ) → made (a ∷ []) ≡ []) (two : (a b : ℕ) (bs : List ℕ) → made (a ∷ b ∷ bs) ≡ f (a ∷ b ∷ []) ∷ made bs) where
+  pub of_pairs : (n : ℕ) (bs : List ℕ) → length bs / 2 ≡ n → made bs ≡ map f (first_chunks 2 n bs)
+  of_pairs zero [] e = none
+  of_pairs zero (a ∷ []) e = one a
+  of_pairs zero (a ∷ b ∷ bs) e = absurd (omega arith)
+  of_pairs (suc n) [] e = absurd (omega arith)
+  of_pairs (suc n) (a ∷ []) e = absurd (omega arith)
+  of_pairs (suc n) (a ∷ b ∷ bs) e = two a b bs ∙ ap (λ (xs : List A). f (a ∷ b ∷ []) ∷ xs) (of_pairs n bs (omega arith))

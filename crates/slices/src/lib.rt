@@ -2,13 +2,12 @@
 #![tactic(auto)]
 
 ghost use Rattle.std.specs.Prelude.{◌≡◌, ◌+◌, ◌≤◌, ◌<◌, length};
-ghost use Rattle.std.specs.Range.{range_inclusive_start, range_inclusive_end};
 ghost use Rattle.calculus.specs.Limits.{most_terms};
 ghost use Rattle.calculus.specs.Lists.{up_from};
-ghost use Rattle.slices.specs.Bytes.{bytes_at, raised_at, raised_words, rises, put_at};
+ghost use Rattle.calculus.specs.Reading.{ascending, words};
+ghost use Rattle.slices.specs.Bytes.{bytes_at, word_at, put_at};
 
 use std::array;
-use std::ops::RangeInclusive;
 use terms::MOST_TERMS;
 
 // Two bytes, low first.
@@ -19,27 +18,20 @@ pub fn word(part: &[u8], at: usize) -> u16
     u16::from_le_bytes([part[at], part[at + 1]])
 }
 
-// Two bytes, low first, 32,768 above their signed value: the order is the same, and there is no sign.
-pub fn raised(part: &[u8], at: usize) -> u32
+// Two bytes, low first, as a signed number.
+pub fn signed(part: &[u8], at: usize) -> i16
     requires { at + 1 < length part.now }
-    ensures { result ≡ raised_at part.now at }
+    ensures { result ≡ word_at part.now at }
 {
-    (word(part, at) as u32 + 32768) % 65536
+    word(part, at).cast_signed()
 }
 
-// Whether two-byte values are strictly ascending and, raised, in a range.
-pub fn rising(part: &[u8], range: RangeInclusive<u32>) -> bool
-    ensures { result ≡ rises (range_inclusive_start range) (range_inclusive_end range) (raised_words part.now) }
+// Whether two-byte numbers, signed, are strictly ascending.
+pub fn ascends(part: &[u8]) -> bool
+    ensures { result ≡ ascending (words part.now) }
 {
-    let (mut least, hi) = range.into_inner();
-    for pair in part.as_chunks::<2>().0 {
-        let value = raised(pair, 0);
-        if value < least || hi < value {
-            return false;
-        }
-        least = value + 1;
-    }
-    true
+    let pairs = part.as_chunks::<2>().0;
+    pairs.is_sorted_by(|a, b| i16::from_le_bytes(*a) < i16::from_le_bytes(*b))
 }
 
 // Writes bytes at a place of a buffer.

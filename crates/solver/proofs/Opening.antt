@@ -35,8 +35,8 @@ module _ (bs : List ℕ) (tab : Table) (o : Opened bs tab) where
   pub terms_few : tab.terms ≤ most_terms
   terms_few = (opened_sizes bs tab o).2
 
-  pub place_there : (i : ℕ) → i < length (constraints_in bs tab) → i < tab.constraints
-  place_there i l = omega (arith, constraint_count bs tab o)
+  pub place_there : {i : ℕ} → i < length (constraints_in bs tab) → i < tab.constraints
+  place_there l = omega (arith, constraint_count bs tab o)
 
 -- a branch of the run, as it is lent to a search
 module _ {cs : List Term} {b : Branch} (s : Sound cs b) where

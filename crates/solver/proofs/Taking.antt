@@ -32,15 +32,17 @@ use Rattle.places.specs.Alternatives.{slots_of, child_of}
 use Rattle.places.proofs.Picking.{picked_among}
 use Rattle.places.proofs.Slots.{children_slots, move_rule, child_fit, propagation_slots}
 use Rattle.places.proofs.Offered.{rule_of}
+use Rattle.fits.specs.Words.{Shown}
+use Rattle.quiet.specs.Quiet.{Quiet}
 use Rattle.search.specs.declared.Found.{Found}
 use Rattle.search.specs.First.{candidate_at, first_place_of, spot, Located, IsFirst}
 use Rattle.step.specs.declared.Act.{Act}
 use Rattle.step.specs.Acts.{performed, Rooted, Under, OnLowTerms, Placed, Somewhere, Acts}
 use Rattle.step.proofs.Placing.{placed}
 use Rattle.step.proofs.Performing.{performed_rowed}
-use Rattle.solver.specs.ComesTo.{constants, constraints_in, shown, remaining}
+use Rattle.solver.specs.ComesTo.{constants, constraints_in, shown, remaining, Ready}
 use Rattle.constraints.proofs.Decoding.{constraint_in, entries_as}
-use Rattle.solver.proofs.Opening.{in_range, among, terms_few, place_there}
+use Rattle.solver.proofs.Opening.{in_range, among, terms_few, place_there, shows}
 use Rattle.solver.proofs.NextLaws.{Before, found_next}
 use Rattle.solver.proofs.Working.{fit}
 
@@ -98,7 +100,7 @@ module _ {bs : List ℕ} {tab : Table} {split : Bool} {b : Branch} {r : Found} {
 
   -- its terms, and the root concerned, are the problem's
   pub in_terms : ConstraintIn tab.terms most_sets this
-  in_terms = subst (ConstraintIn tab.terms most_sets) constraint_is (constraint_in bs tab r.number s.opened (place_there bs tab s.opened r.number s.located.within.in_problem) tab.terms 8 (omega arith) (opened_sizes bs tab s.opened).1)
+  in_terms = subst (ConstraintIn tab.terms most_sets) constraint_is (constraint_in bs tab r.number s.opened (place_there bs tab s.opened s.located.within.in_problem) tab.terms 8 (omega arith) (opened_sizes bs tab s.opened).1)
 
   pub low_act : (a : Act) → OnLowTerms r.instance a → Under tab.terms a
   low_act a l = l tab.terms in_terms s.located.low
@@ -168,6 +170,10 @@ taking o sound e f = record {
   located = f.located;
 }
 
+-- among what a branch that can be worked leaves open, for propagation rules
+pub propagating : {bs : List ℕ} {tab : Table} {b : Branch} {wake ripe : ℕ} {r : Found} → Opened bs tab → (y : Ready bs tab b wake ripe) → (f : (c : calculus.Branch) → Shown c b.parents b.rows → Quiet false tab.terms (constraints_in bs tab) c wake → IsFirst false tab.terms (constraints_in bs tab) c r) → Taking bs tab false b r (f (held b) (shows y.sound) y.propagation).position
+propagating o y f = taking o y.sound tt (f _ (shows y.sound) y.propagation)
+
 -- ---- a propagation step has one child, or none
 
 span_end : (l : Constraint) → (propagation_span l).1 ≤ 20
@@ -211,5 +217,5 @@ module _ {bs : List ℕ} {tab : Table} {b : Branch} {r : Found} {q : ℕ} (s : T
     told false e = going e
 
   -- what it asserts is known by its act
-  pub inferred : {a : Act} {t : Asserted} → Acts b.parents (decoded r.instance.constraint) r.instance.rule q 0 a → t ≡ performed b a → Made bs tab b r q 0 t
-  inferred {a} d e = acted s a first_there d.rooted (d.asserts (constants bs tab) b refl s.sound.good s.sound.rowed.fixed) e
+  pub inferred : {a : Act} {t : Asserted} → ((p : ℕ) → Placed b.parents r.instance.constraint r.instance.rule p r.instance.root.0 → 0 < slots_of (decoded r.instance.constraint) r.instance.rule → Acts b.parents (decoded r.instance.constraint) r.instance.rule p 0 a) → t ≡ performed b a → Made bs tab b r q 0 t
+  inferred {a} f e = let d = f q (is_placed s) first_there in acted s a first_there d.rooted (d.asserts (constants bs tab) b refl s.sound.good s.sound.rowed.fixed) e

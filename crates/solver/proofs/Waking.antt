@@ -26,6 +26,7 @@ use Rattle.places.proofs.Offered.{offered}
 use Rattle.problem.specs.declared.Table.{Table}
 use Rattle.problem.specs.Table.{Opened, constraint_of, no_constraint}
 use Rattle.problem.proofs.Access.{opened_sizes, constraint_count}
+use Rattle.solver.proofs.Opening.{place_there}
 use Rattle.bits.proofs.Bits.{bit_of_or, bit_ones}
 use Rattle.branch.specs.declared.Branch.{Branch}
 use Rattle.branch.specs.declared.Asserted.{Asserted}
@@ -123,12 +124,9 @@ all_idle split n ls b e i l j r =
 -- ---- the masks of a branch
 
 module _ {bs : List ℕ} {tab : Table} (o : Opened bs tab) {b : Branch} {wake ripe : ℕ} (y : Ready bs tab b wake ripe) where
-  counted : {i : ℕ} → i < length (constraints_in bs tab) → i < tab.constraints
-  counted l = omega (arith, constraint_count bs tab o)
-
   -- after a search for propagation rules, whether it finds one or none, and after one for splits
   pub narrowed : {r : Found} → IsFirst false tab.terms (constraints_in bs tab) (held b) r → Ready bs tab b r.left ripe
-  narrowed f = record { sound = y.sound; propagation = f.quiet; splits = y.splits; wake_low = λ i e. counted (f.low i e); ripe_low = y.ripe_low }
+  narrowed f = record { sound = y.sound; propagation = f.quiet; splits = y.splits; wake_low = λ i e. place_there bs tab o (f.low i e); ripe_low = y.ripe_low }
 
   pub quieted : Settled bs tab b → Ready bs tab b 0 ripe
   quieted e = record {
@@ -140,19 +138,19 @@ module _ {bs : List ℕ} {tab : Table} (o : Opened bs tab) {b : Branch} {wake ri
   }
 
   pub narrowed_splits : {r : Found} → IsFirst true tab.terms (constraints_in bs tab) (held b) r → Ready bs tab b wake r.left
-  narrowed_splits f = record { sound = y.sound; propagation = y.propagation; splits = f.quiet; wake_low = y.wake_low; ripe_low = λ i e. counted (f.low i e) }
+  narrowed_splits f = record { sound = y.sound; propagation = y.propagation; splits = f.quiet; wake_low = y.wake_low; ripe_low = λ i e. place_there bs tab o (f.low i e) }
 
   -- after an act
   module _ {entries marks : List ℕ} (k : WordsOf (constraints_in bs tab) entries marks) where
     watched : Watched tab.terms (constraints_in bs tab) entries marks
     unfolding constraint_of
-    watched = record { words_are = k; in_range = λ i l. constraint_in bs tab i o (counted l) tab.terms most_sets (omega arith) (opened_sizes bs tab o).1; few = (opened_sizes bs tab o).2 }
+    watched = record { words_are = k; in_range = λ i l. constraint_in bs tab i o (place_there bs tab o l) tab.terms most_sets (omega arith) (opened_sizes bs tab o).1; few = (opened_sizes bs tab o).2 }
 
     pub widened : {c : Asserted} (a : Act) (w : ℕ) → Rooted b.parents a → Under tab.terms a → Wakes marks a w → c ≡ performed b a → Sound (constants bs tab) c.branch → Ready bs tab c.branch (bit_or wake w) (bit_or ripe w)
     widened {c} a w r u x e s = record {
       sound = s;
       propagation = subst (λ (x : Asserted). Quiet false tab.terms (constraints_in bs tab) (held x.branch) (bit_or wake w)) (sym e) (act_quiet watched false wake w y.sound a r u x y.propagation);
       splits = subst (λ (x : Asserted). Quiet true tab.terms (constraints_in bs tab) (held x.branch) (bit_or ripe w)) (sym e) (act_quiet watched true ripe w y.sound a r u x y.splits);
-      wake_low = λ i. both_low wake w i (y.wake_low i) (λ z. counted (woken_low watched a w x i z));
-      ripe_low = λ i. both_low ripe w i (y.ripe_low i) (λ z. counted (woken_low watched a w x i z));
+      wake_low = λ i. both_low wake w i (y.wake_low i) (λ z. place_there bs tab o (woken_low watched a w x i z));
+      ripe_low = λ i. both_low ripe w i (y.ripe_low i) (λ z. place_there bs tab o (woken_low watched a w x i z));
     }

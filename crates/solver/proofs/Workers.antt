@@ -26,8 +26,10 @@ use Rattle.constraints.specs.Decoded.{decoded, entries_in}
 use Rattle.places.specs.Places.{InSpan, split_span}
 use Rattle.places.specs.Alternatives.{slots_of, child_of}
 use Rattle.places.proofs.Slots.{children_slots}
+use Rattle.fits.specs.Words.{Shown}
+use Rattle.quiet.specs.Quiet.{Quiet}
 use Rattle.search.specs.declared.Found.{Found}
-use Rattle.search.specs.First.{first_place_of}
+use Rattle.search.specs.First.{first_place_of, IsFirst}
 use Rattle.step.specs.declared.Turn.{Turn}
 use Rattle.step.specs.declared.Act.{Act}
 use Rattle.step.specs.Acts.{performed, Rooted}
@@ -44,10 +46,10 @@ use Rattle.records.proofs.Tallied.{log_shaped}
 use Rattle.solver.specs.declared.FoundSplit.{FoundSplit}
 use Rattle.solver.specs.ComesTo.{constants, constraints_in, placed, shown, remaining, events, ComesTo, children_from, ChildrenComeTo, SplitComesTo, Settled, Ready, Splits, Begun}
 use Rattle.solver.proofs.Settling.{Reached, reaches, line}
-use Rattle.solver.proofs.Opening.{in_range, among}
+use Rattle.solver.proofs.Opening.{in_range, among, shows}
 use Rattle.solver.proofs.NextLaws.{none_next}
 use Rattle.solver.proofs.Working.{solved_outcome, closed_outcome, step_stops, split_outcome, children_done, children_skip, children_next, children_stop}
-use Rattle.solver.proofs.Taking.{Taking, Made, closing, here_is, ruled, is_placed, applying, stepped, given, child_less, acted}
+use Rattle.solver.proofs.Taking.{Taking, Made, taking, closing, here_is, ruled, is_placed, applying, stepped, given, child_less, acted}
 
 -- counts and buffers stay within their bounds
 outcome_fine : (bs : List ℕ) (tab : Table) (budget : ℕ) (b : Branch) (s t : State) → Fine tab.terms budget s → ComesTo bs tab budget b s t → Fine tab.terms budget t
@@ -76,8 +78,13 @@ module _ {bs : List ℕ} {tab : Table} {b : Branch} {r : Found} {q : ℕ} (s : T
   at_root : q ≡ r.instance.root.0
   at_root = ap (λ (t : Term). t.index) (sym (s.located.within.of_root (split_not_19 (placed bs tab r) r.instance.rule s.located.within.of_rule)).1 ∙ s.located.concerns)
 
-  pub rooted : Taking bs tab true b r r.instance.root.0
+  rooted : Taking bs tab true b r r.instance.root.0
   rooted = subst (Taking bs tab true b r) at_root s
+
+-- what a search for splits answers, where one for propagation rules finds nothing
+pub dividing : {bs : List ℕ} {tab : Table} {b : Branch} {wake ripe : ℕ} {r : Found} → Opened bs tab → Ready bs tab b wake ripe → ((c : calculus.Branch) → Shown c b.parents b.rows → Quiet false tab.terms (constraints_in bs tab) c wake → first_place_of false tab.terms (constraints_in bs tab) c ≡ none)
+    → ((c : calculus.Branch) → Shown c b.parents b.rows → Quiet true tab.terms (constraints_in bs tab) c ripe → IsFirst true tab.terms (constraints_in bs tab) c r) → Taking bs tab true b r r.instance.root.0
+dividing o y e f = rooted (taking o y.sound (e _ (shows y.sound) y.propagation) (f _ (shows y.sound) y.splits))
 
 module _ {bs : List ℕ} {tab : Table} {b : Branch} {r : Found} (s : Taking bs tab true b r r.instance.root.0) where
   abbrev this : Constraint

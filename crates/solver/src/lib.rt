@@ -9,9 +9,9 @@ ghost use Rattle.solver.specs.ComesTo.{Wakes, ComesTo, SplitComesTo, Begun, Read
 
 use bits::low_bits;
 use branch::Branch;
-use marks::{PAIR, Prepared, prepare};
+use marks::{PAIR, Prepared, prepare, woken};
 use problem::Problem;
-use records::{Counts, Output, Stop};
+use records::{Counts, Output, Step, Stop};
 use search::{Found, Scope, search};
 use step::{Act, act_of, child_at, child_count, kept, perform, slots};
 
@@ -48,7 +48,7 @@ fn wakes(run: &Prepared, a: Act) -> u64
     ensures { Wakes run.now.marks a result }
 {
     match a {
-        Act::Note(_, x, y) => run.woken(x, y),
+        Act::Note(_, x, y) => woken(&run.marks, x, y),
         Act::Merge(_, _) => run.marks[PAIR as usize],
         Act::Close => 0,
     }
@@ -65,7 +65,7 @@ fn work(run: &Run, next: &Branch, awake: Awake, out: &mut Output) -> Result<(), 
     let mut at = *next;
     let mut wake = awake.wake;
     let mut ripe = awake.ripe;
-    while let Some(found) = search(
+    while let Some(found) = &search(
         prepared,
         &at,
         Scope {
@@ -76,19 +76,19 @@ fn work(run: &Run, next: &Branch, awake: Awake, out: &mut Output) -> Result<(), 
         let place = &found.instance;
         let act = act_of(&at, place, 0);
         let conflict = perform(&mut at, act);
-        out.write_step(
-            run.budget,
-            place.rule,
-            found.number,
-            place.root.0,
-            !conflict as u8,
-        )?;
+        let step = Step {
+            rule: place.rule,
+            constraint: found.number,
+            root: place.root,
+            children: !conflict as u8,
+        };
+        out.take_step(run.budget, step)?;
         if conflict {
             return Ok(());
         }
         let more = wakes(prepared, act);
         wake = found.left | more;
-        ripe = ripe | more;
+        ripe |= more;
     }
     let Some(found) = search(
         prepared,
@@ -102,13 +102,13 @@ fn work(run: &Run, next: &Branch, awake: Awake, out: &mut Output) -> Result<(), 
     };
     let place = &found.instance;
     let left = kept(&at, place);
-    out.write_step(
-        run.budget,
-        place.rule,
-        found.number,
-        place.root.0,
-        child_count(left),
-    )?;
+    let step = Step {
+        rule: place.rule,
+        constraint: found.number,
+        root: place.root,
+        children: child_count(left),
+    };
+    out.take_step(run.budget, step)?;
     children(run, &at, &FoundSplit { found, left }, out)
 }
 

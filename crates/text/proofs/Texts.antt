@@ -2,29 +2,31 @@
 use mathlib.Core.Path.{◌≡◌, refl, sym, ap, ◌∙◌}
 use mathlib.Core.List.{List, [], ◌∷◌, ◌++◌}
 use Prim.Native.Nat.{ℕ, zero, suc, ◌+◌, ◌-◌, ◌/◌, ◌%◌, ◌^◌, ◌≤◌, ◌<◌}
-use native.Mathlib.Nat.{add-zero, pow-zero, pow-suc}
+use native.Mathlib.Nat.{add-zero}
 use native.Mathlib.Omega.{arith}
 use native.Mathlib.Decide.{dec_lt}
 use lib.ListN.{length, length-append}
 use borrow.Author.Tests.{lt-ltb, le-ltb}
 use Rattle.calculus.specs.Reading.{signed}
 use Rattle.calculus.specs.Calls.{over}
-use Rattle.slices.proofs.Buffers.{put_length, put_nothing, put_first, put_after}
-use Rattle.text.specs.Text.{digits, decimal, number, Wrote}
+use Rattle.slices.proofs.Buffers.{put_nothing, put_first, put_after}
+use Rattle.std.specs.Fmt.{decimal as Std·decimal}
+use Rattle.std.proofs.lemmas.Fmt.{decimal_by_steps, length-decimal-le}
+use Rattle.text.specs.declared.Text.{Text}
+use Rattle.text.specs.Text.{digits, decimal, number, Says}
 
 -- ---- pieces
 
-pub wrote_nothing : (d : List ℕ) (at : ℕ) → Wrote d at [] at d
-wrote_nothing d at = record { after_is = sym (put_nothing d at); ends = sym (add-zero at) }
-
-pub wrote_length : {d : List ℕ} {at : ℕ} {s : List ℕ} {e : ℕ} {d₁ : List ℕ} → Wrote d at s e d₁ → at + length s ≤ length d → length d₁ ≡ length d
-wrote_length {d} {at} {s} w l = ap length w.after_is ∙ put_length d at s l
+pub says_nothing : (a : Text) → Says a [] a
+says_nothing a = record { buffer_is = sym (put_nothing a.buffer.now a.end); ends = sym (add-zero a.end); long = refl; same = refl }
 
 -- right after what was written
-pub wrote_more : {d : List ℕ} {at : ℕ} {s : List ℕ} {m : ℕ} {d₁ t : List ℕ} {e : ℕ} {d₂ : List ℕ} → at ≤ length d → Wrote d at s m d₁ → Wrote d₁ m t e d₂ → Wrote d at (s ++ t) e d₂
-wrote_more {d} {at} {s} {m} {d₁} {t} l v w = record {
-  after_is = w.after_is ∙ rw (v.after_is, v.ends) (put_after d at s t l);
+pub says_more : {a : Text} {s : List ℕ} {b : Text} {t : List ℕ} {c : Text} → a.end ≤ length a.buffer.now → Says a s b → Says b t c → Says a (s ++ t) c
+says_more {a} {s} {b} {t} l v w = record {
+  buffer_is = w.buffer_is ∙ rw (v.buffer_is, v.ends) (put_after a.buffer.now a.end s t l);
   ends = omega (arith, w.ends, v.ends, length-append s t);
+  long = w.long ∙ v.long;
+  same = w.same ∙ v.same;
 }
 
 -- ---- decimal digits
@@ -46,13 +48,12 @@ pub decimal_more : (n : ℕ) → 10 ≤ n → decimal n ≡ decimal (n / 10) ++ 
 unfolding decimal
 decimal_more n l = rw (le-ltb n 10 l) (ap (λ (x : List ℕ). x ++ ((48 + n % 10) ∷ [])) (digits_same n (suc (n / 10)) (n / 10) (omega arith) (omega arith)))
 
-pub decimal_length : (k n : ℕ) → n < 10 ^ suc k → length (decimal n) ≤ suc k
-decimal_length zero n l = rw (decimal_one n (omega (arith, l, pow-suc 10 0, pow-zero 10))) (omega arith)
-decimal_length (suc k) n l = go (dec_lt n 10) (decimal_length k (n / 10))
-  where
-    go : Dec (n < 10) → (n / 10 < 10 ^ suc k → length (decimal (n / 10)) ≤ suc k) → length (decimal n) ≤ suc (suc k)
-    go (yes q) h = rw (decimal_one n q) (omega arith)
-    go (no q) h = rw (decimal_more n (omega arith)) (omega (arith, length-append (decimal (n / 10)) ((48 + n % 10) ∷ []), h (omega (arith, l, pow-suc 10 (suc k)))))
+-- std's text of a number is the same
+pub decimal_same : (n : ℕ) → n < 2 ^ 64 → Std·decimal n ≡ decimal n
+decimal_same = decimal_by_steps (λ m ds. ds ≡ decimal m) (λ m l. let e : m % 10 ≡ m = omega arith in rw (decimal_one m l, e) refl) (λ m ds l h. rw (decimal_more m l, h) refl)
+
+pub decimal_length : (k n : ℕ) → 0 < k → n < 10 ^ k → n < 2 ^ 64 → length (decimal n) ≤ k
+decimal_length k n a b c = rw (← decimal_same n c) (length-decimal-le k n a b c)
 
 -- ---- the number of a two-byte word
 
@@ -63,9 +64,9 @@ pub large_number : (x : ℕ) → 32768 ≤ x → x < 65536 → number (signed x)
 large_number x l m = let e : suc (65535 - x) ≡ 65536 - x = omega arith in rw (le-ltb x 32768 l) (ap (λ (n : ℕ). 45 ∷ decimal n) e)
 
 pub decimal_short : (n : ℕ) → n < 100000 → length (decimal n) ≤ 5
-decimal_short n l = decimal_length 4 n l
+decimal_short n l = decimal_length 5 n (omega arith) (omega arith) (omega arith)
 
 -- ---- text at the beginning
 
-pub wrote_over : {d s : List ℕ} {e : ℕ} {d₁ : List ℕ} (t : List ℕ) → Wrote d 0 s e d₁ → t ≡ s → (d₁ ≡ over t d) × (e ≡ length t)
-wrote_over {d} {s} t w q = rw q (w.after_is ∙ put_first d 0 s refl, omega (arith, w.ends))
+pub says_over : {a : Text} {s : List ℕ} {b : Text} (t : List ℕ) → a.end ≡ 0 → Says a s b → t ≡ s → (b.buffer.now ≡ over t a.buffer.now) × (b.end ≡ length t)
+says_over {a} {s} t z w q = rw q (w.buffer_is ∙ put_first a.buffer.now a.end s z, omega (arith, w.ends))

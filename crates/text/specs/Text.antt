@@ -2,6 +2,7 @@
 use Rattle.std.specs.Prelude.{◌≡◌, cond, List, [], ◌∷◌, ◌++◌, map, ℕ, zero, suc, ◌+◌, ◌*◌, ◌-◌, ◌/◌, ◌%◌, ◌≤◌, length, get_or, ltb, eqb, ℤ, pos, negsuc}
 use Rattle.calculus.specs.Lists.{gather, Each}
 use Rattle.slices.specs.Bytes.{put_at}
+use Rattle.text.specs.declared.Text.{Text}
 
 -- the decimal digits of n, the most significant first; fuel above n is enough
 abbrev pub digits : ℕ → ℕ → List ℕ
@@ -43,10 +44,12 @@ module _ {A : Type 0} where
 
 -- ---- text in a buffer
 
--- text was written at a place of a buffer: the buffer after it, and where the text ends (whoever writes sees to it that there is room)
-pub record Wrote (before : List ℕ) (at : ℕ) (text : List ℕ) (end : ℕ) (after : List ℕ) : Type 0 where
-  pub after_is : after ≡ put_at before at text
-  pub ends : end ≡ at + length text
+-- a text has more after what it had: nothing else of the buffer changes, and it is the same buffer, as long as it was. Who writes sees to it that there is room.
+pub record Says (before : Text) (more : List ℕ) (after : Text) : Type 0 where
+  pub buffer_is : after.buffer.now ≡ put_at before.buffer.now before.end more
+  pub ends : after.end ≡ before.end + length more
+  pub long : length after.buffer.now ≡ length before.buffer.now
+  pub same : after.buffer.ghost_name ≡ before.buffer.ghost_name
 
 -- a separator, unless nothing was written since a place
 unfoldable pub led : (c start end : ℕ) → List ℕ

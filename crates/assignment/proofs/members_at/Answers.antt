@@ -14,8 +14,7 @@ pub returns : goal.returns
 returns c =
     let x = c.in_ok-members.ensures.cases in
     let y = c.in_ok-count.ensures.cases in
-    let r = rw (c.new.ensures.start, c.new.ensures.end) at c.rising.ensures in
     rw c.then_some.ensures
     (where_true (MembersOf c.args.bytes.now) _ _
-    (members_there _ c.type_inv.bytes _ _ _ _ y.0 x.0 x.1 x.2 _ r)
-    (members_unordered _ c.type_inv.bytes _ _ _ _ y.0 x.0 x.1 x.2 _ r))
+    (members_there _ _ _ _ _ y.0 x.0 x.1 x.2 _ c.ascends.ensures)
+    (members_unordered _ _ _ _ _ y.0 x.0 x.1 x.2 _ c.ascends.ensures))

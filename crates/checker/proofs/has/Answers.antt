@@ -1,13 +1,12 @@
-use Rattle.std.proofs.Common.{arith, rules, ◌∙◌, eqb}
-use borrow.Author.Tests.{tests}
-use mir.Syntax.{w16}
-use Rattle.std.specs.Int.{from_le_bytes}
+use Rattle.std.proofs.Common.{arith, rules, ◌∙◌}
 use Rattle.std.proofs.lemmas.Iterator.{YieldsList-from_slice}
 use Rattle.std.proofs.lemmas.Iterator.Search.{any_from_yields_List}
-use Rattle.checker.proofs.Pairs.{has_in_pairs}
+use Rattle.calculus.specs.Reading.{signed, eq_z}
+use Rattle.checker.proofs.Pairs.{number_of, any_in_pairs, same_value}
 use Rattle.checker.proofs.has.Goals as goal
 
 pub returns : goal.returns
 returns c =
-    any_from_yields_List (λ m. eqb (from_le_bytes w16 m) c.args.x) _ _ _ c.any.ensures.ran (YieldsList-from_slice c.as_chunks.result.0.now cc) (λ x b q k. search (rules, tests))
-    ∙ rw c.as_chunks.ensures.front (has_in_pairs c.args.x c.ranges.x.fits _ c.args.members.now c.type_inv.members (omega arith))
+    let x = c.args.x in
+    any_from_yields_List (λ m. eq_z (signed x) (number_of m)) _ _ _ c.any.ensures.ran (YieldsList-from_slice c.as_chunks.result.0.now cc) (λ m b q k. (search rules, grind (arith, same_value, c.ranges.x.fits, k)))
+    ∙ rw c.as_chunks.ensures.front (any_in_pairs (eq_z (signed x)) _ c.args.members.now (omega arith))

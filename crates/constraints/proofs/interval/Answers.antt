@@ -3,4 +3,4 @@ use Rattle.constraints.proofs.Decoding.{numbers_of}
 use Rattle.constraints.proofs.interval.Goals as goal
 
 pub returns : goal.returns
-returns c = numbers_of _ _ _ c.args.problem.now.upward c.if-last-first.false (c.requires c.if-last-first.false)
+returns c = numbers_of _ _ c.if-last-first.false (c.requires c.if-last-first.false)

@@ -14,11 +14,14 @@ entry_bits-requires c = rw c.entries.ensures (entries_below _ c.decode-l.ensures
 pub bounds-entries-n : goal.bounds-entries-n
 bounds-entries-n c = omega (arith, (opened_sizes _ _ c.args.problem.now.opened).0)
 
-pub mark-requires : goal.mark-requires
-mark-requires c = (c.needed.ensures.small, omega (arith, (opened_sizes _ _ c.args.problem.now.opened).0))
+pub bit_at-requires : goal.bit_at-requires
+bit_at-requires c = omega (arith, (opened_sizes _ _ c.args.problem.now.opened).0)
+
+pub turn_words-requires : goal.turn_words-requires
+turn_words-requires c = rw c.entry_bits.array_long c.needed.ensures.small
 
 pub loop-i-preserved : goal.loop-i-preserved
-loop-i-preserved c = fill_next c.loop-i.invariant _ c.args.problem.now.opened c.loop-i-test.true c.decode-l.ensures (rw c.entries.ensures at c.entry_bits.ensures) c.needed.ensures c.mark.ensures
+loop-i-preserved c = fill_next c.loop-i.invariant _ c.args.problem.now.opened c.loop-i-test.true c.decode-l.ensures (rw c.entries.ensures at c.entry_bits.ensures) c.needed.ensures (rw c.entry_bits.array_long c.needed.ensures.small) c.bit_at.ensures c.turn_words.ensures
 
 pub invariant_of-result : goal.invariant_of-result
 invariant_of-result c = record { words_are = fill_end c.loop-i.invariant _ c.args.problem.now.opened c.loop-i-test.false }

@@ -1,25 +1,24 @@
--- The returns rest on a letter that is too low or too high, or on none being left.
-use Rattle.std.proofs.Common.{sym, ◌∙◌}
-use Rattle.std.proofs.lemmas.List.{at_drop_more, at_drop_all}
-use Rattle.slices.specs.Bytes.{rises}
-use Rattle.slices.proofs.RaisedWords.{out_of_range, rises_on, rises_end}
-use Rattle.questions.proofs.Rises.{letters_rise}
+-- Letters pass where they ascend and each is in the range.
+use Rattle.std.proofs.Common.{ltb, refl, ◌∙◌, rules}
+use Rattle.std.proofs.lemmas.Iterator.{YieldsList-from_slice}
+use Rattle.std.proofs.lemmas.Iterator.Search.{all_from_yields_List}
+use Rattle.std.proofs.lemmas.List.Sorted.{answers_always}
+use Rattle.std.specs.Range.{range_inclusive_start, range_inclusive_end}
+use Rattle.std.specs.List.{list_all}
+use borrow.Author.Tests.{tests}
+use Rattle.questions.proofs.Letters.{within, letters_are}
 use Rattle.questions.proofs.letters_ok.Goals as goal
 
-pub loop-letter-init : goal.loop-letter-init
-loop-letter-init c = rw (c.into_inner-lo.ensures.start, c.into_inner-lo.ensures.end) (letters_rise _ _ _)
+pub returns-then-is_sorted_by : goal.returns-then-is_sorted_by
+returns-then-is_sorted_by c =
+    let a = c.args in
+    let test = within (range_inclusive_start a.range) (range_inclusive_end a.range) in
+    let sorted = c.is_sorted_by.ensures.cases ltb (answers_always _ _ _ (λ f x r g k. search (rules, tests))) in
+    rw c.if-is_sorted_by.true at (letters_are _ _ a.part.now _ _ sorted (all_from_yields_List test _ _ _ c.all.ensures.ran (YieldsList-from_slice a.part.now cc) (λ x b q k. search (rules, tests))))
 
-pub returns-then-letter-least : goal.returns-then-letter-least
-returns-then-letter-least c =
-    let v = c.loop-letter in
-    sym (v.invariant ∙ at_drop_more (rises v.least _) _ v.letter-index 0 c.loop-letter-test.true ∙ out_of_range _ _ _ _ c.then-letter-least.either)
-
-pub loop-letter-preserved : goal.loop-letter-preserved
-loop-letter-preserved c =
-    let v = c.loop-letter in
-    v.invariant ∙ at_drop_more (rises v.least _) _ v.letter-index 0 c.loop-letter-test.true ∙ rises_on _ _ _ _ c.if-letter-least.false c.if-hi-letter.false
-
-pub returns : goal.returns
-returns c =
-    let v = c.loop-letter in
-    sym (v.invariant ∙ at_drop_all (rises v.least _) _ v.letter-index c.loop-letter-test.false ∙ rises_end _ _)
+pub returns-else-is_sorted_by : goal.returns-else-is_sorted_by
+returns-else-is_sorted_by c =
+    let a = c.args in
+    let test = within (range_inclusive_start a.range) (range_inclusive_end a.range) in
+    let sorted = c.is_sorted_by.ensures.cases ltb (answers_always _ _ _ (λ f x r g k. search (rules, tests))) in
+    c.if-is_sorted_by.false ∙ rw c.if-is_sorted_by.false at (letters_are _ _ a.part.now _ (list_all test a.part.now) sorted refl)

@@ -4,6 +4,7 @@ use Rattle.calculus.proofs.Bools.{and_l}
 use Rattle.problem.proofs.Access.{opened_sizes}
 use Rattle.bits.proofs.Bits.{bit_of_and}
 use Rattle.bits.proofs.Taking.{takes_left}
+use Rattle.fits.proofs.FitLaws.{looks}
 use Rattle.search.specs.Narrowed.{Narrows}
 use Rattle.search.proofs.Narrowing.{rest_idle, narrows_all, narrows_splits, narrows_one}
 use Rattle.search.proofs.looked_at.Goals.{then-scope, else-scope}
@@ -21,6 +22,9 @@ loop-n-init c =
 
 pub bounds-run-n : goal.bounds-run-n
 bounds-run-n c = omega (arith, c.loop-n.invariant.there c.in-Some.n c.in-Some.ensures.steps.set, (opened_sizes _ _ c.args.run.now.problem.opened).0)
+
+pub rests-requires : goal.rests-requires
+rests-requires c = (c.requires.0, looks _ c.decode-l.ensures.handled)
 
 pub loop-n-preserved-then-rests : goal.loop-n-preserved-then-rests
 loop-n-preserved-then-rests c =

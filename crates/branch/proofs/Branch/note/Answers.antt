@@ -8,4 +8,4 @@ unfolding noting
 returns c =
     let b = c.args.self in
     let h = c.args.h.0 in
-    rw (c.turn_rows.ensures, c.bit_at.ensures, c.literals_of.ensures, get_or-set_same b.insides h _ 0 (omega arith), get_or-set_same b.outsides h _ 0 (omega arith))
+    rw (c.turn_words.ensures, c.bit_at.ensures, c.literals_of.ensures, get_or-set_same b.insides h _ 0 (omega arith), get_or-set_same b.outsides h _ 0 (omega arith))

@@ -1,15 +1,13 @@
 -- The members are tested pair by pair, and then the entries.
 use Rattle.std.proofs.Common.{◌≡◌, arith, rules, ◌∙◌}
-use mir.Syntax.{w16}
-use Rattle.std.specs.Int.{from_le_bytes}
 use Rattle.std.proofs.lemmas.Iterator.{YieldsList-from_slice}
 use Rattle.std.proofs.lemmas.Iterator.Search.{all_from_yields_List}
 use Rattle.calculus.specs.Lists.{all}
-use Rattle.calculus.specs.Reading.{signed, words}
+use Rattle.calculus.specs.Reading.{words}
 use Rattle.calculus.specs.Check.{has}
 use Rattle.std.proofs.Common.{map}
 use Rattle.checker.specs.Tested.{value_at}
-use Rattle.checker.proofs.Pairs.{all_in_pairs, first_fails, then_second}
+use Rattle.checker.proofs.Pairs.{number_of, all_in_pairs, first_fails, then_second}
 use Rattle.checker.proofs.seen.Seen.exactly.Goals as goal
 use Rattle.checker.proofs.seen.Seen.exactly.Goals.{After-all}
 
@@ -17,7 +15,7 @@ use Rattle.checker.proofs.seen.Seen.exactly.Goals.{After-all}
 members_pass : (c : After-all) → c.all.result ≡ all (has (map (value_at c.args.self.now) c.args.list.now)) (words c.args.members.now)
 members_pass c =
     let s = c.args in
-    all_from_yields_List (λ m. has (map (value_at s.self.now) s.list.now) (signed (from_le_bytes w16 m))) _ _ _ c.all.ensures.ran (YieldsList-from_slice c.as_chunks.result.0.now cc) (λ x b q k. search rules)
+    all_from_yields_List (λ m. has (map (value_at s.self.now) s.list.now) (number_of m)) _ _ _ c.all.ensures.ran (YieldsList-from_slice c.as_chunks.result.0.now cc) (λ x b q k. search rules)
     ∙ rw c.as_chunks.ensures.front (all_in_pairs (has (map (value_at s.self.now) s.list.now)) _ s.members.now (omega arith))
 
 pub returns-then-all : goal.returns-then-all

@@ -1,27 +1,19 @@
 -- A root that is a constant has its value, any other 32,001 and its number; a root is at most its term, so the sum fits.
 use Rattle.std.proofs.Common.{◌∙◌, arith}
-use Rattle.listing_lines.proofs.Values.{term_of, root_low, constant_value, free_value}
+use Rattle.listing_lines.proofs.Values.{term_there, root_low, constant_value, free_value}
 use Rattle.listing_lines.proofs.form.Form.value.Goals as goal
 
 pub root_in-h-requires : goal.root_in-h-requires
-root_in-h-requires c = term_of c.args.self.now c.args.t.0 c.requires
+root_in-h-requires c = term_there c.args.self.now _ c.requires
 
 pub returns-then-h-self : goal.returns-then-h-self
-returns-then-h-self c =
-    let f = c.args.self.now in
-    c.constant.ensures.0 ∙ constant_value f.problem.bytes.now f.problem.table f.problem.opened f.record.now f.shaped c.args.t.0 c.requires _ c.root_in-h.ensures c.if-h-self.true
+returns-then-h-self c = c.constant.ensures.0 ∙ constant_value c.args.self.now _ c.requires _ c.root_in-h.ensures c.if-h-self.true
 
 pub overflow_cast-result : goal.overflow_cast-result
-overflow_cast-result c =
-    let f = c.args.self.now in
-    omega (arith, (term_of f c.args.t.0 c.requires).0, root_low f.problem.bytes.now f.problem.table f.problem.opened f.record.now f.shaped c.args.t.0 c.requires _ c.root_in-h.ensures)
+overflow_cast-result c = omega (arith, root_low c.args.self.now _ c.requires _ c.root_in-h.ensures)
 
 pub overflow_add-result : goal.overflow_add-result
-overflow_add-result c =
-    let f = c.args.self.now in
-    omega (arith, (term_of f c.args.t.0 c.requires).0, root_low f.problem.bytes.now f.problem.table f.problem.opened f.record.now f.shaped c.args.t.0 c.requires _ c.root_in-h.ensures)
+overflow_add-result c = omega (arith, root_low c.args.self.now _ c.requires _ c.root_in-h.ensures)
 
 pub returns : goal.returns
-returns c =
-    let f = c.args.self.now in
-    free_value f.problem.bytes.now f.problem.table f.problem.opened f.record.now f.shaped c.args.t.0 c.requires _ c.root_in-h.ensures c.if-h-self.false
+returns c = free_value c.args.self.now _ c.requires _ c.root_in-h.ensures c.if-h-self.false

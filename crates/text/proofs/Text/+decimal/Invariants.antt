@@ -1,5 +1,0 @@
--- It ends: n / 10 is below n.
-use Rattle.text.proofs.Text.+decimal.Given as goal
-
-abbrev pub decreases-decimal : goal.decreases-decimal
-decreases-decimal l = l.n
