@@ -20,7 +20,7 @@ use solver::{Ended, solve};
 use terms::MOST_STEPS;
 pub use verdict::{Judgement, Verdict};
 
-// The word of a refusal.
+// The word of a refusal. No From, here and below: this is a word's layout, and `ended` asks that its counts are small.
 fn declined(no: Refusal) -> u64
     ensures { result ≡ answer_word (refusal (number_of no)) }
 {

@@ -1,4 +1,4 @@
-// What a call answers, by the numbers that an answer word has; 0 is a refusal's (`run_number` and `judgement_number`, specs/Words.antt).
+// What a call answers, in two enums with a From each, since an impl is of one type; by the numbers that an answer word has; 0 is a refusal's (`run_number` and `judgement_number`, specs/Words.antt).
 ghost use Rattle.std.specs.Prelude.{◌≡◌};
 ghost use Rattle.capi.specs.Words.{run_number, judgement_number};
 

@@ -38,7 +38,7 @@ fn at_point(k: Relation, a: bool, b: bool, c: bool) -> bool
     }
 }
 
-// Whether a relation holds at every one of some members: those of l, m or r.
+// Whether a relation holds at every one of some members: those of l, m or r, named as the definition has them; in an array they would be numbers.
 fn holds_at(k: Relation, part: &[u8], l: &[u8], m: &[u8], r: &[u8]) -> bool
     ensures { result ≡ all (related_at k l.now m.now r.now) (words part.now) }
 {

@@ -9,9 +9,10 @@ ghost use Rattle.constraints.specs.Decoded.{entries_in, Unpacked};
 
 use problem::Problem;
 use questions::Kind;
-use terms::{MOST_TERMS, SetVar, Term};
+use slices::NUMBERS;
+use terms::{SetVar, Term};
 
-// The relations between sets, and those that a constraint can deny.
+// The relations between sets; and those that a constraint can deny (`Negation`).
 #[derive(Clone, Copy)]
 pub enum Relation {
     Equal,
@@ -33,7 +34,7 @@ pub enum Entries {
     Interval(Term, Term),
 }
 
-// The sets A, B and C of the rules' tables; a constraint of two sets repeats its first.
+// The sets A, B and C of the rules' tables; a constraint of two sets repeats its first, as in the calculus: with an Option each use of C would match.
 #[derive(Clone, Copy)]
 pub struct Operands(pub SetVar, pub SetVar, pub SetVar);
 
@@ -60,13 +61,6 @@ impl<'a> Constraint<'a> {
         }
     }
 }
-
-// The numbers of all terms, upward from 0.
-static NUMBERS: [u8; MOST_TERMS] = [
-    0, 1, 2, 3, 4, 5, 6, 7, 8, 9, 10, 11, 12, 13, 14, 15, 16, 17, 18, 19, 20, 21, 22, 23, 24, 25,
-    26, 27, 28, 29, 30, 31, 32, 33, 34, 35, 36, 37, 38, 39, 40, 41, 42, 43, 44, 45, 46, 47, 48, 49,
-    50, 51, 52, 53, 54, 55, 56, 57, 58, 59, 60, 61, 62, 63,
-];
 
 // The terms from a first to a last; none if the first is above.
 fn interval(first: Term, last: Term) -> &'static [u8]

@@ -74,7 +74,7 @@ fn denied(b: &Branch, d: Denial, w: Term) -> u64
     bit_at(root(b, w).0) & !met(b, d.0) & !met(b, d.1) & !met(b, d.2)
 }
 
-// The roots of the entries' classes.
+// The roots of the entries' classes. One line, as `entry_bits` is: a function for both would take a closure with its contract, and be longer.
 pub fn entry_roots(list: &[u8], b: &Branch) -> u64
     requires { Each (λ e. e < most_terms) list.now × Falls b.now.parents }
     ensures { RootBits b.now.parents list.now result }
@@ -83,7 +83,7 @@ pub fn entry_roots(list: &[u8], b: &Branch) -> u64
         .fold(0, |found, e| found | bit_at(root(b, Term(*e)).0))
 }
 
-// The root of the first entry whose class is not in a row.
+// The root of the first entry whose class is not in a row. A list is a part of the problem's bytes: as a struct it would be made anew at each call.
 fn first_missing(list: &[u8], b: &Branch, row: u64) -> u64
     requires { Each (λ e. e < most_terms) list.now × Falls b.now.parents }
     ensures { result ≡ missed b.now.parents row list.now }
@@ -126,7 +126,7 @@ pub fn rests(b: &Branch, entries: u64, l: &Constraint, split: bool) -> bool
     }
 }
 
-// Rules 19 and 20, by number, as an instance has it, of a set and its entries.
+// Rules 19 and 20, by number, as an instance has it, of a set and its entries. A run keeps a constraint's bits beside it: as a struct both would be made anew at each call.
 fn by_entries(b: &Branch, list: &[u8], entries: u64, a: SetVar, rule: u8) -> u64
     requires { Falls b.now.parents × EntryBits list.now entries × (a.0 < most_sets) }
     ensures { ByEntries b.now.parents (row_at b.now.rows (record { 0 = a.0 })) list.now rule result }
@@ -138,7 +138,7 @@ fn by_entries(b: &Branch, list: &[u8], entries: u64, a: SetVar, rule: u8) -> u64
     row & !entries & !entry_roots(list, b)
 }
 
-// The roots, as bits, at which a rule of a constraint applies; of rule 19 only that of the first entry at which it does. What is promised is the lowest of them.
+// The roots, as bits, at which a rule of a constraint, by number, as an instance has it, applies; of rule 19 only that of the first entry at which it does. What is promised is the lowest of them.
 pub fn fitting(b: &Branch, entries: u64, l: &Constraint, rule: u8) -> u64
     requires { Falls b.now.parents × Asked entries l.now rule }
     ensures { FitsFor b.now.parents b.now.rows l.now rule result }

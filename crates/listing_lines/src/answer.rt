@@ -3,7 +3,7 @@ ghost use Rattle.listing_lines.specs.Writing.{ReadOff};
 
 use capi::Verdict;
 
-// The number of a refusal; or the verdict, and how many steps and forms there are. It is no `Result`, since a refusal is nothing that fails here: a listing prints both.
+// The number of a refusal, which alone is printed; or the verdict, and how many steps and forms there are. Here alone a verdict's number is read: a TryFrom beside `Verdict` would have the same arms, and an error that no word has. It is no `Result`, since a refusal is nothing that fails here: a listing prints both.
 #[derive(Clone, Copy)]
 pub enum Answer {
     Refused(u64),

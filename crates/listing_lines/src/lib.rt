@@ -17,7 +17,7 @@ use form::Form;
 use problem::read;
 use text::Text;
 
-// The name of a run's verdict.
+// The name of a run's verdict. No Display, here and in `Form`: its writes answer a Result (`Text`).
 fn name_of(verdict: Verdict) -> &'static [u8]
     ensures { result.now ≡ verdict_name (run_verdict verdict) }
 {
@@ -58,7 +58,7 @@ pub fn lines(word: u64) -> usize
     1 + (word / 4294967296) as usize
 }
 
-// Line i of the listing, from a run's answer word and form buffer. Writes it over the beginning of text, and answers how long it is; after the last line that is 0.
+// Line i of the listing, from a run's answer word and form buffer. Writes it over the beginning of text, and answers how long it is; after the last line that is 0, the length of its text. No slice is answered: it would keep the buffer lent.
 pub fn line(problem: &[u8], word: u64, forms: &[u8], i: usize, text: &mut [u8]) -> usize
     requires { ProgramRan problem.now word forms.now × (32768 ≤ length text.old) }
     ensures { (text.new ≡ over (line_at problem.now i) text.old) × (result ≡ length (line_at problem.now i)) }

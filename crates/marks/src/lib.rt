@@ -31,7 +31,7 @@ pub const SPLIT: u8 = PAIR + 2;
 // How many marks there are.
 pub const MARKS: usize = LITERALS + 3;
 
-// The literals, as bits, that a propagation rule of three sets needs. PAIR says that it needs two.
+// The literals, as bits, that a propagation rule, by number, of three sets needs. PAIR says that it needs two.
 fn premises(rule: u8, of: Operands) -> u64
     requires { HasRow rule of × (of.2.0 < most_sets) }
     ensures { Premised of rule result }

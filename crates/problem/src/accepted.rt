@@ -26,7 +26,7 @@ impl<'a> Problem<'a> {
         word(self.bytes, 1 + 2 * t.0 as usize)
     }
 
-    // The bytes from constraint i's kind byte on.
+    // The bytes from constraint i's kind byte on. That i is below the count is asked here and above: a narrower type could not name the problem that it belongs to.
     #[tactic(auto, using(crate::proofs::Access::line_low))]
     pub fn from(&self, i: usize) -> &'a [u8]
         requires { i < self.now.table.constraints }

@@ -23,7 +23,7 @@ fn section_at(bytes: &[u8], size: usize) -> Result<(&[u8], &[u8]), Refusal>
         .ok_or(Refusal::CutShort)
 }
 
-// Questions 2 and 3, of the constants.
+// Questions 2 and 3, of the constants. Beside `letters_at`: one function would take the test as a closure with its contract, and be longer.
 pub fn constants_at(bytes: &[u8]) -> Result<(&[u8], &[u8]), Refusal>
     ensures { Splits 2 (constants_section bytes.now) result }
 {
@@ -67,7 +67,7 @@ pub fn sets_at(bytes: &[u8]) -> Result<(&[u8], &[u8]), Refusal>
     Ok((letters, rest))
 }
 
-// What the constraints are found to be: how many bytes they have, how many terms there are then, and a line for each.
+// What the constraints are found to be: how many bytes they have, how many terms there are then, and a line for each. There is no heap.
 #[derive(Clone, Copy)]
 pub struct Found {
     pub length: usize,
@@ -75,7 +75,7 @@ pub struct Found {
     pub lines: [Line; MOST_CONSTRAINTS],
 }
 
-// The constraints, one by one; the first stands at a place of the problem.
+// The constraints, one by one; the first stands at a place of the problem. Each has its own length, so the place is carried; terms can pass 255 until question 11 is asked.
 pub fn constraints_at(bytes: &[u8], at: usize, m: usize, names: &Names) -> Result<Found, Refusal>
     requires { (at + length bytes.now ≤ most_bytes) × (m ≤ most_constraints) × (length (words names.now.constants.now) ≤ names.now.nameable) }
     ensures { Answers (FoundAs at names.now.nameable (length bytes.now)) (constraints (words names.now.constants.now) names.now.nameable names.now.sets names.now.nameable m bytes.now) result }

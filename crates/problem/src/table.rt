@@ -1,7 +1,7 @@
 // A problem's table.
 use terms::{MOST_CONSTRAINTS, Term};
 
-// Where a constraint's kind byte stands, and the number of its witness; where it has none, of the next one.
+// Where a constraint's kind byte stands, and the number of its witness; where it has none, of the next one: an Option would be matched where it cannot be None.
 // A place and no slice: so a line takes few bytes, and copying the table costs little.
 #[derive(Clone, Copy)]
 pub struct Line {

@@ -25,7 +25,7 @@ pub struct Scanned {
     pub witnesses: u8,
 }
 
-// Question 3: the constants are strictly ascending, and from -32,000 to 32,000.
+// Question 3: the constants are strictly ascending, and from -32,000 to 32,000. Beside `letters_ok`: their elements are read in another way, which one function would take as a closure.
 pub fn constants_ok(constants: &[u8]) -> bool
     ensures { result ≡ (ascending (words constants.now) && in_range (words constants.now)) }
 {
@@ -36,7 +36,7 @@ pub fn constants_ok(constants: &[u8]) -> bool
             .all(|c| (-32_000..=32_000).contains(&i16::from_le_bytes(*c)))
 }
 
-// Questions 4 and 5: strictly ascending letters of a range.
+// Questions 4 and 5: strictly ascending letters of a range. By its ends: of a range iterated to its end `contains` promises nothing.
 pub fn letters_ok(part: &[u8], range: RangeInclusive<u8>) -> bool
     ensures { result ≡ letters (range_inclusive_start range) (range_inclusive_end range) part.now }
 {

@@ -36,7 +36,7 @@ pub struct Step {
     pub children: u8,
 }
 
-// The counts, and the buffers that were lent: the counts say how much of each is written. There is no heap.
+// The counts, and the buffers that were lent: the counts say how much of each is written. There is no heap. That a buffer is still the one that was lent, each call promises (`SameBuffers`): a `&mut` field can be pointed elsewhere.
 #[derive(Drop)]
 pub struct Output<'a> {
     pub counts: Counts,
@@ -61,7 +61,7 @@ impl Output<'_> {
         Ok(())
     }
 
-    // Writes a step into the trace and counts it.
+    // Writes a step into the trace and counts it. Its four bytes are made here alone: a From would move one line.
     pub fn write_step(&mut self, step: Step)
         requires { 4 * self.old.counts.steps + 4 ≤ length self.old.trace.now }
         ensures writes { written self.new DONE ≡ wrote_step (bytes_of step) (written self.old DONE) }

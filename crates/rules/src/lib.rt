@@ -39,7 +39,7 @@ pub struct Instance<'a> {
     pub root: Term,
 }
 
-// The propagation rules of a constraint, by number, or its split.
+// The propagation rules of a constraint, by number, or its split: one search serves both sorts, and hands on which (`Scope`).
 pub fn span_of(l: &Constraint, split: bool) -> Range<u8>
     ensures { Spanned split (kind_of (decoded l.now)) result.start result.end }
 {
@@ -130,7 +130,7 @@ pub fn alone(l: Literal) -> Child
     Child(l, l, l)
 }
 
-// Child n of a rule from 5 to 18.
+// Child n of a rule from 5 to 18, by number, as an instance has it.
 pub fn child_of(rule: u8, of: Operands, n: usize) -> Child
     requires { HasChild rule of n }
     ensures { result ≡ child (sets of) (literals_of rule n) }

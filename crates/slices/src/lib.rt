@@ -7,10 +7,9 @@ ghost use Rattle.calculus.specs.Lists.{up_from};
 ghost use Rattle.calculus.specs.Reading.{ascending, words};
 ghost use Rattle.slices.specs.Bytes.{bytes_at, word_at, put_at};
 
-use std::array;
 use terms::MOST_TERMS;
 
-// Two bytes, low first.
+// Two bytes, low first. That they are below 65,536 is said too, here and where a value is read: callers' proofs use it.
 pub fn word(part: &[u8], at: usize) -> u16
     requires { at + 1 < length part.now }
     ensures { (result ≡ bytes_at part.now at) × (result < 65536) }
@@ -43,8 +42,15 @@ pub fn put(bytes: &[u8], buffer: &mut [u8], at: usize)
 }
 
 // The numbers of all terms, upward from 0.
+pub static NUMBERS: [u8; MOST_TERMS] = [
+    0, 1, 2, 3, 4, 5, 6, 7, 8, 9, 10, 11, 12, 13, 14, 15, 16, 17, 18, 19, 20, 21, 22, 23, 24, 25,
+    26, 27, 28, 29, 30, 31, 32, 33, 34, 35, 36, 37, 38, 39, 40, 41, 42, 43, 44, 45, 46, 47, 48, 49,
+    50, 51, 52, 53, 54, 55, 56, 57, 58, 59, 60, 61, 62, 63,
+];
+
+// A copy of them, to be written over.
 pub fn term_numbers() -> [u8; MOST_TERMS]
     ensures { result ≡ up_from 0 most_terms }
 {
-    array::from_fn(|t| t as u8)
+    NUMBERS
 }

@@ -138,7 +138,7 @@ fn children(run: &Run, b: &Branch, split: &FoundSplit, out: &mut Output) -> Resu
     Ok(())
 }
 
-// Runs a problem from its start.
+// Runs a problem from its start. Who calls has only the buffers that C lends: the `Output` is made here.
 pub fn solve(problem: &Problem, budget: usize, forms: &mut [u8], trace: &mut [u8]) -> Ended
     requires { (budget ≤ most_steps) × (4 * budget ≤ length trace.old) }
     ensures { Runs problem.now.bytes.now budget forms.old trace.old (state result.counts (end_of result.end) forms.new trace.new) }

@@ -1,7 +1,7 @@
 // The two sorts, and the limits of a problem.
 #![tactic(auto)]
 
-// A term, by its number: a constant, a variable or a witness. A term number and a set number are never used for one another. That a number is below a limit is asked where it is used: a narrower type would ask it of all who make one.
+// A term, by its number: a constant, a variable or a witness. A term number and a set number are never used for one another. That a number is below a limit is asked where it is used: a narrower type would ask it of all who make one. No order is derived: at the three places that compare it would be a call, and its answer a law more.
 #[derive(Clone, Copy)]
 pub struct Term(pub u8);
 
