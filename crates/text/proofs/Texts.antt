@@ -10,7 +10,8 @@ use borrow.Author.Tests.{lt-ltb, le-ltb}
 use Rattle.calculus.specs.Reading.{signed}
 use Rattle.calculus.specs.Calls.{over}
 use Rattle.slices.proofs.Buffers.{put_nothing, put_first, put_after}
-use Rattle.std.specs.Fmt.{decimal as Std·decimal}
+use Rattle.std.specs.Fmt.{decimal as Std·decimal, signed_decimal as Std·signed_decimal}
+use Rattle.std.specs.Int.{w16, cast_signed}
 use Rattle.std.proofs.lemmas.Fmt.{decimal_by_steps, length-decimal-le}
 use Rattle.text.specs.declared.Text.{Text}
 use Rattle.text.specs.Text.{digits, decimal, number, Says}
@@ -52,16 +53,16 @@ decimal_more n l = rw (le-ltb n 10 l) (ap (λ (x : List ℕ). x ++ ((48 + n % 10
 pub decimal_same : (n : ℕ) → n < 2 ^ 64 → Std·decimal n ≡ decimal n
 decimal_same = decimal_by_steps (λ m ds. ds ≡ decimal m) (λ m l. let e : m % 10 ≡ m = omega arith in rw (decimal_one m l, e) refl) (λ m ds l h. rw (decimal_more m l, h) refl)
 
+-- and of the number of a two-byte word
+pub number_same : (x : ℕ) → x < 65536 → Std·signed_decimal (cast_signed w16 x) ≡ number (signed x)
+number_same x l = go (dec_lt x 32768)
+  where
+    go : Dec (x < 32768) → Std·signed_decimal (cast_signed w16 x) ≡ number (signed x)
+    go (yes q) = rw (lt-ltb x 32768 q) (decimal_same x (omega arith))
+    go (no q) = let e : 65536 - suc x ≡ 65535 - x = omega arith in rw (le-ltb x 32768 (omega arith), e) (ap (λ (ds : List ℕ). 45 ∷ ds) (decimal_same (suc (65535 - x)) (omega arith)))
+
 pub decimal_length : (k n : ℕ) → 0 < k → n < 10 ^ k → n < 2 ^ 64 → length (decimal n) ≤ k
 decimal_length k n a b c = rw (← decimal_same n c) (length-decimal-le k n a b c)
-
--- ---- the number of a two-byte word
-
-pub small_number : (x : ℕ) → x < 32768 → number (signed x) ≡ decimal x
-small_number x l = rw (lt-ltb x 32768 l) refl
-
-pub large_number : (x : ℕ) → 32768 ≤ x → x < 65536 → number (signed x) ≡ 45 ∷ decimal (65536 - x)
-large_number x l m = let e : suc (65535 - x) ≡ 65536 - x = omega arith in rw (le-ltb x 32768 l) (ap (λ (n : ℕ). 45 ∷ decimal n) e)
 
 pub decimal_short : (n : ℕ) → n < 100000 → length (decimal n) ≤ 5
 decimal_short n l = decimal_length 5 n (omega arith) (omega arith) (omega arith)

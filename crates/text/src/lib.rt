@@ -8,9 +8,6 @@ ghost use Rattle.text.specs.Text.{decimal as Text·decimal, number as Text·numb
 use itoa::Buffer;
 use slices::put;
 
-// The two-byte words from here on are negative numbers.
-const FIRST_NEGATIVE: u64 = 32768;
-
 // A buffer, and where the text in it ends: each method writes there, and keeps the buffer. Who calls it sees to it that there is room, so no write can fail; those of `Display` and `io::Cursor` answer a `Result`.
 #[derive(Drop)]
 pub struct Text<'a> {
@@ -39,18 +36,12 @@ impl Text<'_> {
     }
 
     // The whole number of a two-byte word, a minus sign first if negative.
-    #[tactic(auto, using(crate::proofs::Texts::decimal_short))]
     pub fn number(&mut self, x: u16)
         requires { self.old.end + 6 ≤ length self.old.buffer.now }
         ensures says { Says self.old (Text·number (signed x)) self.new }
         ensures short { self.new.end ≤ self.old.end + 6 }
     {
-        let n = x as u64;
-        if n < FIRST_NEGATIVE {
-            return self.decimal(n);
-        }
-        self.say(b"-");
-        self.decimal(65536 - n);
+        self.say(Buffer::new().format(x.cast_signed()).as_bytes());
     }
 
     // A separator, unless nothing was written since a place.

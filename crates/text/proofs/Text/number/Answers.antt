@@ -1,10 +1,11 @@
--- A word below 32,768 is its own number, any other a minus sign and 65,536 less the word.
-use Rattle.std.proofs.Common.{arith}
-use Rattle.text.proofs.Texts.{says_more, small_number, large_number}
+-- What is said is the signed number's text.
+use Rattle.std.proofs.Common.{rules, arith, ◌≡◌, ◌∙◌, w16}
+use Rattle.std.specs.Fmt.{signed_decimal}
+use Rattle.std.specs.Int.{cast_signed}
+use Rattle.text.proofs.Texts.{number_same}
 use Rattle.text.proofs.Text.number.Goals as goal
 
-pub returns-then-n-lt-FIRST_NEGATIVE-clause-says : goal.returns-then-n-lt-FIRST_NEGATIVE-clause-says
-returns-then-n-lt-FIRST_NEGATIVE-clause-says c = rw (small_number c.args.x (omega arith)) c.decimal.ensures.says
-
 pub returns-clause-says : goal.returns-clause-says
-returns-clause-says c = rw (large_number c.args.x (omega arith) (omega arith)) (says_more (omega arith) c.say.ensures.says c.decimal-2.ensures.says)
+returns-clause-says c =
+    let text : c.as_bytes.result.now ≡ signed_decimal (cast_signed w16 c.args.x) = search rules in
+    rw (← text ∙ number_same c.args.x (omega arith)) c.say.ensures.says
