@@ -102,7 +102,7 @@ pub fn entry_bits(list: &[u8]) -> u64
     list.iter().fold(0, |found, e| found | bit_at(*e))
 }
 
-// What a list and its set do not share, as bits: for splits the roots of the set that are no entries, else the entries that are no roots of the set. Without any, rule 20 or rule 19 does not apply: a root that is an entry is in its own class.
+// What a list and its set do not share, as bits: for splits, as a search asks (`Scope`), the roots of the set that are no entries, else the entries that are no roots of the set. Without any, rule 20 or rule 19 does not apply: a root that is an entry is in its own class.
 fn unshared(b: &Branch, entries: u64, a: SetVar, split: bool) -> u64
     requires { a.0 < most_sets }
     ensures { result ≡ unshared_of b.now.rows entries split a }
@@ -114,7 +114,7 @@ fn unshared(b: &Branch, entries: u64, a: SetVar, split: bool) -> u64
     entries & !row
 }
 
-// One test shows that no propagation rule of a constraint applies, or no split. Only of constraints of kind 4 and of lists there is such a test.
+// One test shows that no propagation rule of a constraint applies, or no split, as a search asks (`Scope`). Only of constraints of kind 4 and of lists there is such a test.
 pub fn rests(b: &Branch, entries: u64, l: &Constraint, split: bool) -> bool
     requires { Falls b.now.parents × Looked l.now }
     ensures { result ≡ rests_by b.now.parents b.now.rows entries split l.now }

@@ -14,7 +14,7 @@ use problem::Problem;
 use terms::{SetVar, Term};
 use text::Text;
 
-// A problem and the record of one of its solved forms.
+// A problem and the record of one of its solved forms. No Display, as `Text` says; and a text is lent beside it, since in it each method would have to promise the form back.
 #[derive(Clone, Copy)]
 pub struct Form<'a> {
     pub problem: Problem<'a>,

@@ -9,7 +9,7 @@ pub struct Line {
     pub witness: Term,
 }
 
-// How many of each there are, and a line for each constraint (specs/Table.antt). All else is read from the problem's bytes.
+// How many of each there are, and a line for each constraint (specs/Table.antt). All else is read from the problem's bytes. There is no heap: the array is as long as the limit.
 #[derive(Clone, Copy)]
 pub struct Table {
     pub constants: u8,

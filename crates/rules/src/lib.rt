@@ -11,7 +11,7 @@ use constraints::{Constraint, Negation, Operands, Relation};
 use std::ops::Range;
 use terms::{OUT, SetVar, Term};
 
-// A literal, by its number, which is also that of a branch's row: k is "in set k", OUT + k is "out of set k".
+// A literal, by its number, which is also that of a branch's row: k is "in set k", OUT + k is "out of set k". That it is low is asked where a row is read, as of a `Term`.
 #[derive(Clone, Copy)]
 pub struct Literal(pub u8);
 
@@ -66,7 +66,7 @@ pub fn span_of(l: &Constraint, split: bool) -> Range<u8>
     }
 }
 
-// Rules 5, 6, 8 to 11 and 13 to 18, by number, as an instance has it.
+// Rules 5, 6, 8 to 11 and 13 to 18, by number, as an instance has it. Only two variants have sets: the match that finds them hands them on.
 pub fn row_of(rule: u8, of: Operands) -> Row
     requires { HasRow rule of }
     ensures { result ≡ laid (sets of) (numbered rule) }
