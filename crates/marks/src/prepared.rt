@@ -7,7 +7,7 @@ use crate::MARKS;
 use problem::Problem;
 use terms::MOST_CONSTRAINTS;
 
-// A problem, and words of bits that a run looks up. There is no heap: they are two arrays.
+// A problem, and words of bits that a run looks up. There is no heap: they are two arrays, and a table's lines a third, which the check has too.
 #[derive(Clone, Copy)]
 pub struct Prepared<'a> {
     pub problem: Problem<'a>,

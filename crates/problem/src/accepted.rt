@@ -9,6 +9,7 @@ use crate::table::Table;
 use slices::word;
 use terms::Term;
 
+// Where a section stands follows from the counts before it: a slice of each would need a ghost field more, which who makes a Problem would have to prove.
 #[derive(Clone, Copy)]
 pub struct Problem<'a> {
     pub bytes: &'a [u8],

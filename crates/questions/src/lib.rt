@@ -18,7 +18,7 @@ pub use refusal::Refusal;
 use slices::{ascends, signed};
 use std::ops::RangeInclusive;
 
-// How many bytes a constraint has, and how many witnesses.
+// How many bytes a constraint has, and how many witnesses: a number, since they are added up.
 #[derive(Clone, Copy)]
 pub struct Scanned {
     pub length: usize,

@@ -112,7 +112,7 @@ fn work(run: &Run, next: &Branch, awake: Awake, out: &mut Output) -> Result<(), 
     children(run, &at, &FoundSplit { found, left }, out)
 }
 
-// Works the children of a split in order, until one stops the run.
+// Works the children of a split in order, until one stops the run. By number, as the order is told: of rule 20 some numbers have no child, and an iterator would loop over these.
 #[cycle(children_work)]
 fn children(run: &Run, b: &Branch, split: &FoundSplit, out: &mut Output) -> Result<(), Stop>
     requires { Splits run.now.prepared.problem.bytes.now run.now.prepared.problem.table b.now split.now × Begun run.now.prepared.problem.table.terms run.now.budget (written out.old DONE) }
