@@ -49,14 +49,14 @@ module _ (bs hs : List ℕ) where
 -- what was seen is tested
 module _ (bs hs : List ℕ) (p : code.Problem) (prob : Problem) (r : read bs ≡ parsed prob) (o : ReadAs bs prob p) (a : Assignment) (lay : Lays hs p.table.variables p.table.sets (Some a)) where
   abbrev saw : Seen
-  saw = record { problem = p; handed = a; valued = omega (arith, lay.2.values_are.0, lay.2.many) }
+  saw = record { problem = p; handed = a; valued = omega (arith, lay.2.parts.values_are.0, lay.2.parts.many) }
 
   tested : (t : result.Option ℕ) → lowest (seen saw) 0 (constraints_of (read p.bytes.now)) ≡ failing t → check bs hs ≡ checked_by (parsed (failing t))
   unfolding check ◌>>=◌ constraints_of
   tested t e =
       let q : read p.bytes.now ≡ parsed prob = ap read o.0 ∙ r in
       let x = rw q at e in
-      rw (r, sym (same_question bs hs prob r p.table o.1) ∙ lay.1) (ap (λ (y : Option ℕ). checked_by (parsed y)) (sym (lowest_seen saw prob q o.1 lay.0 lay.2) ∙ x))
+      rw (r, sym (same_question bs hs prob r p.table o.1) ∙ lay.1) (ap (λ (y : Option ℕ). checked_by (parsed y)) (sym (lowest_seen saw prob q lay.0 lay.2.parts) ∙ x))
 
   pub check_fails : (i : ℕ) → lowest (seen saw) 0 (constraints_of (read p.bytes.now)) ≡ some i → 6 + 256 * i ≡ check_word (check bs hs)
   unfolding check_word

@@ -5,7 +5,7 @@ ghost use Rattle.calculus.specs.Reading.{read, signed, words};
 ghost use Rattle.calculus.specs.Check.{has, holds?, lowest};
 ghost use Rattle.problem.specs.Table.{constraints_of, constraint_of};
 
-use crate::{has, relates};
+use crate::{has, has_value, relates};
 use assignment::Assignment;
 use constraints::{Constraint, Operands, Relation, decode};
 use problem::Problem;
@@ -70,8 +70,8 @@ impl<'a> Seen<'a> {
         ensures { result ≡ holds? (seen self.now) (constraint_of self.now.problem.bytes.now i) }
     {
         match decode(&self.problem, i) {
-            Constraint::Member(t, a) => has(self.members(a), self.value(t)),
-            Constraint::Nonmember(t, a) => !has(self.members(a), self.value(t)),
+            Constraint::Member(t, a) => has_value(self.members(a), self.value(t)),
+            Constraint::Nonmember(t, a) => !has_value(self.members(a), self.value(t)),
             Constraint::Same(t, u) => self.value(t) == self.value(u),
             Constraint::Different(t, u) => self.value(t) != self.value(u),
             Constraint::Related(k, Operands(a, b, c)) => {

@@ -9,6 +9,7 @@ use lib.Seq.{get_or-drop}
 use lib.IntN.{ℤ}
 use types.Run.{OneOf, miss}
 use Rattle.std.proofs.Common.{Bor}
+use Rattle.std.proofs.lemmas.List.{take_rest}
 use Rattle.calculus.specs.Limits.{most_sets, most_constraints, most_terms}
 use Rattle.calculus.specs.Lists.{Each, up_from}
 use Rattle.calculus.specs.Terms.{Term, SetVar, term, set_var}
@@ -27,7 +28,7 @@ use Rattle.questions.specs.declared.kind.Kind.TheVariants.{Exactly, Interval as 
 use Rattle.questions.specs.Kinds.{code_of}
 use Rattle.problem.specs.declared.table.Table.{Table}
 use Rattle.problem.specs.Table.{problem_table, line_of, Opened, Stands, constraints_of, no_constraint, constraint_of, kind_of, witness_of}
-use Rattle.problem.proofs.Access.{Read, opened, Placed, placed, place_of, kind_read, witness_read, witness_is, opened_sizes}
+use Rattle.problem.proofs.Access.{Read, opened, Placed, placed, stands, place_of, kind_read, witness_read, witness_is, opened_sizes}
 use Rattle.constraints.specs.declared.Entries.{Entries}
 use Rattle.constraints.specs.declared.Entries.TheVariants.{Written, Interval}
 use Rattle.constraints.specs.declared.Constraint.{Constraint}
@@ -163,7 +164,7 @@ entries_as (Listed (Interval t u) A es) = refl
 pub stands_there : (bs : List ℕ) (tab : Table) (i : ℕ) → Opened bs tab → i < tab.constraints → (i < most_constraints) × Stands bs i (line_of tab i).at × (term (line_of tab i).witness.0 ≡ witness_of bs i)
 stands_there bs tab i o l =
     let s = (placed bs tab i o l).small in
-    (s, record { tab = tab; opened = o; there = l; offset = refl }, witness_read bs tab i o s)
+    (s, stands bs tab i o l, witness_read bs tab i o s)
 
 module _ (bs : List ℕ) (i at : ℕ) (st : Stands bs i at) where
   abbrev this : calculus.Constraint
@@ -208,31 +209,33 @@ module _ (bs : List ℕ) (i at : ℕ) (st : Stands bs i at) where
 
 -- ---- its bytes, from its kind byte on
 
-pub record Begins (bs : List ℕ) (tab : Table) (i : ℕ) (line : List ℕ) : Type 0 where
-  pub opened : Opened bs tab
-  pub there : i < tab.constraints
-  pub from : line ≡ drop (line_of tab i).at bs
+-- they are those of constraint i, whose witness is w
+pub record Begins (bs : List ℕ) (i at w : ℕ) (line : List ℕ) : Type 0 where
+  pub there : Stands bs i at
+  pub witness : term w ≡ witness_of bs i
+  pub from : line ≡ drop at bs
 
-module _ {bs : List ℕ} {tab : Table} {i : ℕ} {line : List ℕ} (s : Begins bs tab i line) where
-  abbrev there : Stands bs i (line_of tab i).at
-  there = (stands_there bs tab i s.opened s.there).1
+-- so does the part from its place on
+pub begin : {bs : List ℕ} {i at w : ℕ} → Stands bs i at × (term w ≡ witness_of bs i) → Begins bs i at w (take (length bs - at) (drop at bs))
+begin {bs} {at = at} s = record { there = s.0; witness = s.1; from = take_rest bs at }
 
+module _ {bs : List ℕ} {i at w : ℕ} {line : List ℕ} (s : Begins bs i at w line) where
   abbrev known : calculus.Constraint
   known = constraint_of bs i
 
   abbrev rest : List ℕ
-  rest = (place bs i (line_of tab i).at there).rest
+  rest = (place bs i at s.there).rest
 
   begins : line ≡ encode_constraint known ++ rest
-  begins = s.from ∙ here bs i (line_of tab i).at there
+  begins = s.from ∙ here bs i at s.there
 
   lengths : length line ≡ length (encode_constraint known) + length rest
   lengths = ap length begins ∙ length-append (encode_constraint known) rest
 
   kind_byte : get_or line 0 0 ≡ kind_of known
   kind_byte =
-      let z : (line_of tab i).at + 0 ≡ (line_of tab i).at = omega arith in
-      ap (λ (xs : List ℕ). get_or xs 0 0) s.from ∙ get_or-drop (line_of tab i).at bs 0 0 ∙ ap (λ (x : ℕ). get_or bs x 0) z ∙ kind_here bs i (line_of tab i).at there
+      let z : at + 0 ≡ at = omega arith in
+      ap (λ (xs : List ℕ). get_or xs 0 0) s.from ∙ get_or-drop at bs 0 0 ∙ ap (λ (x : ℕ). get_or bs x 0) z ∙ kind_here bs i at s.there
 
   -- its kind byte is a kind's
   pub kind_known : ¬ ((get_or line 0 0 ≡ 0) ⊎ (12 < get_or line 0 0))
@@ -248,35 +251,34 @@ module _ {bs : List ℕ} {tab : Table} {i : ℕ} {line : List ℕ} (s : Begins b
   third_operand c q h = omega (arith, (kind_sizes known).3 (subst (OneOf three) (sym (ap code_of q) ∙ c ∙ kind_byte) h), lengths)
 
   -- it is that of its kind over them
-  pub reads_as : {k m : Kind} → code_of k ≡ get_or line 0 0 → k ≡ m → known ≡ of_kind (code_of m) (get_or line 1 0) (get_or line 2 0) (get_or line 3 0) (line_of tab i).witness.0 (entries_of known)
+  pub reads_as : {k m : Kind} → code_of k ≡ get_or line 0 0 → k ≡ m → known ≡ of_kind (code_of m) (get_or line 1 0) (get_or line 2 0) (get_or line 3 0) w (entries_of known)
   reads_as {k} {m} c q =
       let b : kind_of known ≡ code_of m = sym kind_byte ∙ sym c ∙ ap code_of q in
-      let w : term (line_of tab i).witness.0 ≡ witness_of bs i = (stands_there bs tab i s.opened s.there).2 in
-      let p = prob bs i (line_of tab i).at there in
-      let h = by_kind p.constants (nameable p) (set_count p) (line_of tab i).witness.0 rest known (refers bs i (line_of tab i).at there) (λ k A B C v z. w ∙ witness_is bs tab i s.opened k A B C v z) in
+      let p = prob bs i at s.there in
+      let h = by_kind p.constants (nameable p) (set_count p) w rest known (refers bs i at s.there) (λ k A B C v z. s.witness ∙ witness_is bs s.there.tab i s.there.opened k A B C v z) in
       rw (b, sym begins) at h
 
   pub kind_is : {k m : Kind} → code_of k ≡ get_or line 0 0 → k ≡ m → kind_of known ≡ code_of m
   kind_is c q = sym kind_byte ∙ sym c ∙ ap code_of q
 
   -- so it is decoded, one without entries
-  pub decodes : {k m : Kind} {r : Constraint} → code_of k ≡ get_or line 0 0 → k ≡ m → of_kind (code_of m) (get_or line 1 0) (get_or line 2 0) (get_or line 3 0) (line_of tab i).witness.0 (entries_of known) ≡ decoded r → length (entries_in r) ≤ 255 → Unpacked bs i r
-  decodes {r = r} c q e n = unpacked bs i (line_of tab i).at there r (reads_as c q ∙ e) n
+  pub decodes : {k m : Kind} {r : Constraint} → code_of k ≡ get_or line 0 0 → k ≡ m → of_kind (code_of m) (get_or line 1 0) (get_or line 2 0) (get_or line 3 0) w (entries_of known) ≡ decoded r → length (entries_in r) ≤ 255 → Unpacked bs i r
+  decodes {r = r} c q e n = unpacked bs i at s.there r (reads_as c q ∙ e) n
 
   -- a list, by the part of the problem that has its entries
-  pub decodes_list : {k : Kind} {es : Bor (List ℕ)} → code_of k ≡ get_or line 0 0 → k ≡ Exactly → known ≡ calculus.exactly (set_var (get_or bs ((line_of tab i).at + 1) 0)) (map term es.now) → length es.now ≤ 255 → Unpacked bs i (Listed Written (record { 0 = get_or line 1 0 }) es)
-  decodes_list {es = es} c q h n = unpacked bs i (line_of tab i).at there (Listed Written (record { 0 = get_or line 1 0 }) es) (reads_as c q ∙ ap (calculus.exactly (set_var (get_or line 1 0))) (ap entries_of h)) n
+  pub decodes_list : {k : Kind} {es : Bor (List ℕ)} → code_of k ≡ get_or line 0 0 → k ≡ Exactly → known ≡ calculus.exactly (set_var (get_or bs (at + 1) 0)) (map term es.now) → length es.now ≤ 255 → Unpacked bs i (Listed Written (record { 0 = get_or line 1 0 }) es)
+  decodes_list {es = es} c q h n = unpacked bs i at s.there (Listed Written (record { 0 = get_or line 1 0 }) es) (reads_as c q ∙ ap (calculus.exactly (set_var (get_or line 1 0))) (ap entries_of h)) n
 
   -- an interval, by its terms
   abbrev ends : calculus.Constraint
   ends = calculus.interval (set_var (get_or line 1 0)) (term (get_or line 2 0)) (term (get_or line 3 0)) (entries_of known)
 
   pub decodes_end : {k : Kind} → code_of k ≡ get_or line 0 0 → k ≡ Interval·kind → get_or line 2 0 ≤ get_or line 3 0 → get_or line 3 0 < most_terms
-  decodes_end c q h = interval_end bs i (line_of tab i).at there (reads_as c q) h
+  decodes_end c q h = interval_end bs i at s.there (reads_as c q) h
 
   pub decodes_interval : {k : Kind} {es : Bor (List ℕ)} → code_of k ≡ get_or line 0 0 → k ≡ Interval·kind → map term es.now ≡ entries (term (get_or line 2 0)) (term (get_or line 3 0)) → length es.now ≤ most_terms
       → Unpacked bs i (Listed (Interval (record { 0 = get_or line 2 0 }) (record { 0 = get_or line 3 0 })) (record { 0 = get_or line 1 0 }) es)
   decodes_interval {es = es} c q h n =
       let e = reads_as c q in
-      let f : entries_of known ≡ map term es.now = filled bs i (line_of tab i).at there e ∙ sym h in
-      unpacked bs i (line_of tab i).at there (Listed (Interval (record { 0 = get_or line 2 0 }) (record { 0 = get_or line 3 0 })) (record { 0 = get_or line 1 0 }) es) (e ∙ ap (calculus.interval (set_var (get_or line 1 0)) (term (get_or line 2 0)) (term (get_or line 3 0))) f) (omega (arith, n))
+      let f : entries_of known ≡ map term es.now = filled bs i at s.there e ∙ sym h in
+      unpacked bs i at s.there (Listed (Interval (record { 0 = get_or line 2 0 }) (record { 0 = get_or line 3 0 })) (record { 0 = get_or line 1 0 }) es) (e ∙ ap (calculus.interval (set_var (get_or line 1 0)) (term (get_or line 2 0)) (term (get_or line 3 0))) f) (omega (arith, n))

@@ -5,9 +5,10 @@ ghost use Rattle.std.specs.Prelude.{◌≡◌, map, ◌≤◌, ◌<◌, length};
 ghost use Rattle.calculus.specs.Limits.{most_terms};
 ghost use Rattle.calculus.specs.Terms.{term};
 ghost use Rattle.calculus.specs.Problem.{entries};
+ghost use Rattle.problem.specs.Table.{Stands, witness_of};
 ghost use Rattle.constraints.specs.Decoded.{entries_in, Unpacked};
 
-use problem::Problem;
+use problem::{Problem, entries};
 use questions::Kind;
 use slices::NUMBERS;
 use terms::{SetVar, Term};
@@ -73,13 +74,12 @@ fn interval(first: Term, last: Term) -> &'static [u8]
     &NUMBERS[first.0 as usize..last.0 as usize + 1]
 }
 
-// Constraint i. The entries of a list are a part of the problem, those of an interval a part of the numbers.
-pub fn decode<'a>(problem: &Problem<'a>, i: usize) -> Constraint<'a>
-    requires { i < problem.now.table.constraints }
-    ensures { Unpacked problem.now.bytes.now i result }
+// Constraint i, whose kind byte stands at an offset. The entries of a list are a part of the problem, those of an interval a part of the numbers.
+pub fn decode_at<'a>(bytes: &'a [u8], i: usize, at: usize, witness: Term) -> Constraint<'a>
+    requires { Stands bytes.now i at × (term witness.0 ≡ witness_of bytes.now i) }
+    ensures { Unpacked bytes.now i result }
 {
-    let line = problem.from(i);
-    let w = problem.table.lines[i].witness;
+    let line = &bytes[at..];
     let Ok(kind) = Kind::try_from(line[0]) else {
         unreachable!()
     };
@@ -93,14 +93,14 @@ pub fn decode<'a>(problem: &Problem<'a>, i: usize) -> Constraint<'a>
         Kind::Same => Constraint::Same(Term(p), Term(q)),
         Kind::Different => Constraint::Different(Term(p), Term(q)),
         Kind::Equal => Constraint::Related(Relation::Equal, Operands(a, b, a)),
-        Kind::Unequal => Constraint::Negated(Negation::Unequal, Operands(a, b, a), w),
+        Kind::Unequal => Constraint::Negated(Negation::Unequal, Operands(a, b, a), witness),
         Kind::Union => Constraint::Related(Relation::Union, Operands(a, b, SetVar(line[3]))),
         Kind::Disjoint => Constraint::Related(Relation::Disjoint, Operands(a, b, a)),
         Kind::Subset => Constraint::Related(Relation::Subset, Operands(a, b, a)),
         Kind::Intersection => {
             Constraint::Related(Relation::Intersection, Operands(a, b, SetVar(line[3])))
         }
-        Kind::Exactly => Constraint::Listed(Entries::Written, a, problem.entries(i)),
+        Kind::Exactly => Constraint::Listed(Entries::Written, a, entries(bytes, i, at)),
         Kind::Interval => {
             let first = Term(q);
             let last = Term(line[3]);
@@ -108,4 +108,13 @@ pub fn decode<'a>(problem: &Problem<'a>, i: usize) -> Constraint<'a>
             Constraint::Listed(Entries::Interval(first, last), a, entries)
         }
     }
+}
+
+// Constraint i of an accepted problem.
+pub fn decode<'a>(problem: &Problem<'a>, i: usize) -> Constraint<'a>
+    requires { i < problem.now.table.constraints }
+    ensures { Unpacked problem.now.bytes.now i result }
+{
+    let line = problem.table.lines[i];
+    decode_at(problem.bytes, i, line.at as usize, line.witness)
 }

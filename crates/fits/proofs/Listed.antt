@@ -3,16 +3,14 @@ use mathlib.Core.Path.{◌≡◌, refl, sym, ap, ap₂, ◌∙◌}
 use mathlib.Core.Bool.{Bool, true, false, ◌&&◌, ◌||◌, not, cond, or-false, or_assoc}
 use mathlib.Core.List.{List, [], ◌∷◌, map}
 use Prim.Native.Nat.{ℕ, ◌-◌, ◌^◌, ◌<◌}
-use native.Mathlib.Omega.{arith}
 use lib.Dec.{eqb}
-use lib.Bits.{bit_and, bit_or, and_lt}
-use lib.Pow.{pow-lt}
+use lib.Bits.{bit_and, bit_or}
 use borrow.Author.Tests.{eqb-true, eq-eqb}
 use Rattle.calculus.specs.Limits.{most_terms}
 use Rattle.calculus.specs.Lists.{any, bit}
 use Rattle.calculus.proofs.Bools.{not_f, any_imp, eqb_flip}
-use Rattle.calculus.proofs.Masks.{bit_of_or, bit_pow, bit_zero}
-use Rattle.bits.proofs.Bits.{bit_without}
+use Rattle.calculus.proofs.Masks.{bit_of_or, bit_of_and, bit_pow, bit_zero}
+use Rattle.bits.proofs.Bits.{bit_not, bit_without}
 use Rattle.branch.specs.Held.{root_of}
 use Rattle.std.specs.List.{fold, find}
 use Rattle.std.specs.Option.{option_map_or}
@@ -53,17 +51,21 @@ covered a b l m z h e = not_f (bit b h) (sym (ap (λ (x : Bool). x && not (bit b
 entry_root : (ps : List ℕ) (h : ℕ) → root_of ps h ≡ h → (es : List ℕ) → any (λ (e : ℕ). eqb e h) es ≡ true → any (λ (e : ℕ). eqb (root_of ps e) h) es ≡ true
 entry_root ps h r es = any_imp (λ e. eqb e h) (λ e. eqb (root_of ps e) h) es (λ e q. eq-eqb (root_of ps e) h (ap (root_of ps) (eqb-true e h q) ∙ r))
 
-module _ (ps : List ℕ) (row : ℕ) (list : List ℕ) (j word : ℕ) (en : EntryBits list word) (x : ℕ) (is : x ≡ row) (l : x < 2 ^ 64) where
+-- `a & !b` at a root: whatever a is
+without : (a b h : ℕ) → b < 2 ^ 64 → h < most_terms → bit (bit_and a (2 ^ 64 - 1 - b)) h ≡ (bit a h && not (bit b h))
+without a b h l k = bit_of_and a (2 ^ 64 - 1 - b) h ∙ ap (λ (x : Bool). bit a h && x) (bit_not 64 b h l k)
+
+module _ (ps : List ℕ) (row : ℕ) (list : List ℕ) (j word : ℕ) (en : EntryBits list word) where
   -- a root in the set that is an entry has an entry in its class
   in_class : OfRoots ps row → (h : ℕ) → h < most_terms → bit row h ≡ true → bit word h ≡ true → any (λ (e : ℕ). eqb (root_of ps e) h) list ≡ true
   in_class r h k b t = entry_root ps h (r h k b) list (sym (en.bits h) ∙ t)
 
-  pub by_entries_20 : ¬ (j ≡ 19) → (r : ℕ) → (r < 2 ^ 64) × ((h : ℕ) → bit r h ≡ any (λ (e : ℕ). eqb (root_of ps e) h) list) → ByEntries ps row list j (bit_and (bit_and x (2 ^ 64 - 1 - word)) (2 ^ 64 - 1 - r))
+  pub by_entries_20 : ¬ (j ≡ 19) → (r : ℕ) → (r < 2 ^ 64) × ((h : ℕ) → bit r h ≡ any (λ (e : ℕ). eqb (root_of ps e) h) list) → ByEntries ps row list j (bit_and (bit_and row (2 ^ 64 - 1 - word)) (2 ^ 64 - 1 - r))
   by_entries_20 q r f = record {
     of_19 = λ _ z. absurd (q z);
     of_20 = λ o _ h k.
-        bit_without 64 (bit_and x (2 ^ 64 - 1 - word)) r h (and_lt 64 x (2 ^ 64 - 1 - word) l (omega (arith, pow-lt {i = 0} {j = most_terms} (omega arith)))) f.0
-        ∙ ap₂ (λ (a b : Bool). a && not b) (bit_without 64 x word h l en.small ∙ ap (λ (a : ℕ). bit a h && not (bit word h)) is) (f.1 h)
+        without (bit_and row (2 ^ 64 - 1 - word)) r h f.0 k
+        ∙ ap₂ (λ (a b : Bool). a && not b) (without row word h en.small k) (f.1 h)
         ∙ go (bit row h) (bit word h) (any (λ (e : ℕ). eqb (root_of ps e) h) list) (in_class o h k);
   }
     where

@@ -131,11 +131,10 @@ fn by_entries(b: &Branch, list: &[u8], entries: u64, a: SetVar, rule: u8) -> u64
     requires { Falls b.now.parents × EntryBits list.now entries × (a.0 < most_sets) }
     ensures { ByEntries b.now.parents (row_at b.now.rows (record { 0 = a.0 })) list.now rule result }
 {
-    let row = known(b, Literal(a.0));
     if rule == 19 {
-        return first_missing(list, b, row);
+        return first_missing(list, b, known(b, Literal(a.0)));
     }
-    row & !entries & !entry_roots(list, b)
+    unshared(b, entries, a, true) & !entry_roots(list, b)
 }
 
 // The roots, as bits, at which a rule of a constraint, by number, as an instance has it, applies; of rule 19 only that of the first entry at which it does. What is promised is the lowest of them.

@@ -55,10 +55,10 @@ fn needed(l: &Constraint) -> u64
         Constraint::Different(_, _) => bit_at(PAIR) | bit_at(REST),
         Constraint::Related(_, of) => {
             let mut found = 0u64;
-            for j in span_of(l, false) {
+            for j in span_of(l, false).rules() {
                 found |= premises(j, of);
             }
-            if !span_of(l, true).is_empty() {
+            if !span_of(l, true).rules().is_empty() {
                 return found | bit_at(split_of(of).0.0) | bit_at(SPLIT);
             }
             found

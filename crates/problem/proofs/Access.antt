@@ -203,17 +203,32 @@ module _ (bs : List ℕ) (tab : Table) (i : ℕ) (h : Placed bs tab i) (k : kind
       let s : get_or bs ((line_of tab i).at + 1) 0 ≡ A.index = sym (get_or-drop ((line_of tab i).at) bs 1 0) ∙ ap (λ (xs : List ℕ). get_or xs 1 0) (sym from ∙ line_is) in
       rw (s, line_is, n, take_at es h.rest (length list) (length-map list (λ (e : Term). e.index)), term_index list) (list_is (constraint_of bs i) k).2
 
--- the same of an opened table's constraint
-module _ (bs : List ℕ) (tab : Table) (i : ℕ) (line : List ℕ) (o : Opened bs tab) (there : i < tab.constraints) (from : line ≡ drop ((line_of tab i).at) bs) (k : kind_of (constraint_of bs i) ≡ 11) where
-  pub list_counted : 2 < length line
-  list_counted = (list_fits bs tab i (placed bs tab i o there) k line from).0
+-- ---- a constraint that stands at an offset
 
-  pub list_there : 3 + get_or line 2 0 ≤ length line
-  list_there = (list_fits bs tab i (placed bs tab i o there) k line from).1
+-- it stands where an opened table says
+pub stands : (bs : List ℕ) (tab : Table) (i : ℕ) → Opened bs tab → i < tab.constraints → Stands bs i (line_of tab i).at
+stands bs tab i o l = record { tab = tab; opened = o; there = l; offset = refl }
 
--- the same of a constraint that stands at an offset
 pub place_of : (bs : List ℕ) (i p : ℕ) (s : Stands bs i p) → Placed bs s.tab i
 place_of bs i p s = placed bs s.tab i s.opened s.there
+
+pub stands_low : (bs : List ℕ) (i p : ℕ) → Stands bs i p → p < length bs
+stands_low bs i p s = omega (arith, s.offset, (place_of bs i p s).low)
+
+-- its entries, if it is a list
+module _ (bs : List ℕ) (i at : ℕ) (line : List ℕ) (s : Stands bs i at) (from : line ≡ drop at bs) (k : kind_of (constraint_of bs i) ≡ 11) where
+  here : line ≡ drop (line_of s.tab i).at bs
+  here = from ∙ ap (λ (x : ℕ). drop x bs) s.offset
+
+  pub list_counted : 2 < length line
+  list_counted = (list_fits bs s.tab i (place_of bs i at s) k line here).0
+
+  pub list_there : 3 + get_or line 2 0 ≤ length line
+  list_there = (list_fits bs s.tab i (place_of bs i at s) k line here).1
+
+  pub list_read_at : constraint_of bs i ≡ exactly (set_var (get_or bs (at + 1) 0)) (map term (take (3 + get_or line 2 0 - 3) (drop 3 line)))
+  list_read_at =
+      subst (λ (x : ℕ). constraint_of bs i ≡ exactly (set_var (get_or bs (x + 1) 0)) (map term (take (3 + get_or line 2 0 - 3) (drop 3 line)))) (sym s.offset) (list_read bs s.tab i (place_of bs i at s) k line here)
 
 -- ---- the witnesses
 

@@ -15,7 +15,7 @@ use Rattle.std.proofs.lemmas.List.{drop-replicate}
 use Rattle.calculus.specs.Limits.{most_constraints}
 use Rattle.calculus.specs.Terms.{term, set_var}
 use Rattle.calculus.specs.Relations.{unequal}
-use Rattle.calculus.specs.Meaning.{Constraint, negation}
+use Rattle.calculus.specs.Meaning.{Constraint, member, nonmember, same, different, relation, negation, exactly, interval}
 use Rattle.calculus.specs.Problem.{Rising, uses}
 use Rattle.calculus.specs.Encoding.{encode_constraint}
 use Rattle.calculus.specs.Reading.{Parsed, parsed, refused, ◌>>=◌, ask, byte, refuse, of_sets, kinds, constraint, constraints}
@@ -29,6 +29,17 @@ use Rattle.slices.specs.Bytes.{filled}
 use Rattle.problem.specs.declared.table.Line.{Line}
 use Rattle.problem.specs.declared.sections.Found.{Found}
 use Rattle.problem.specs.Sections.{no_line, lines_found, found_of, FoundAs}
+
+-- a constraint has at most one witness
+pub uses_one : (l : Constraint) → uses l ≤ 1
+uses_one (member t A) = omega arith
+uses_one (nonmember t A) = omega arith
+uses_one (same t u) = omega arith
+uses_one (different t u) = omega arith
+uses_one (relation k A B C) = omega arith
+uses_one (negation k A B C u) = omega arith
+uses_one (exactly A es) = omega arith
+uses_one (interval A i j es) = omega arith
 
 -- ---- the next witness's number matters only to the witness
 

@@ -3,7 +3,7 @@ ghost use Rattle.std.specs.Prelude.{◌≡◌, map, ◌+◌, ◌≤◌, ◌<◌,
 ghost use Rattle.calculus.specs.Reading.{signed};
 ghost use Rattle.calculus.specs.Terms.{term, set_var};
 ghost use Rattle.calculus.specs.Meaning.{exactly};
-ghost use Rattle.problem.specs.Table.{Opened, kind_of, line_of, constant_of, constraint_of};
+ghost use Rattle.problem.specs.Table.{Opened, Stands, kind_of, line_of, constant_of, constraint_of};
 
 use crate::table::Table;
 use slices::word;
@@ -36,14 +36,21 @@ impl<'a> Problem<'a> {
         &self.bytes[self.table.lines[i].at as usize..]
     }
 
-    // The entries of list constraint i: the part of the problem that has them.
-    #[tactic(auto, using(crate::proofs::Access::list_counted, crate::proofs::Access::list_there))]
+    // The entries of list constraint i.
     pub fn entries(&self, i: usize) -> &'a [u8]
         requires { (i < self.now.table.constraints) × (kind_of (constraint_of self.now.bytes.now i) ≡ 11) }
         ensures { (constraint_of self.now.bytes.now i ≡ exactly (set_var (get_or self.now.bytes.now ((line_of self.now.table i).at + 1) 0)) (map term result.now)) × (length result.now ≤ 255) }
     {
-        let line = self.from(i);
-        let n = line[2] as usize;
-        &line[3..3 + n]
+        entries(self.bytes, i, self.table.lines[i].at as usize)
     }
+}
+
+// The entries of list constraint i, whose kind byte stands at an offset: the part of the problem that has them. Of bytes and an offset, so that who has no table can ask too.
+pub fn entries(bytes: &[u8], i: usize, at: usize) -> &[u8]
+    requires { Stands bytes.now i at × (kind_of (constraint_of bytes.now i) ≡ 11) }
+    ensures { (constraint_of bytes.now i ≡ exactly (set_var (get_or bytes.now (at + 1) 0)) (map term result.now)) × (length result.now ≤ 255) }
+{
+    let line = &bytes[at..];
+    let n = line[2] as usize;
+    &line[3..3 + n]
 }

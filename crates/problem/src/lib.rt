@@ -10,7 +10,7 @@ ghost use Rattle.calculus.specs.Reading.{read};
 ghost use Rattle.questions.specs.Answers.{Answers};
 ghost use Rattle.problem.specs.Table.{TableOf};
 
-pub use accepted::Problem;
+pub use accepted::{Problem, entries};
 use questions::{Names, Refusal};
 use sections::{constants_at, constraints_at, sets_at, variables_at};
 pub use table::{Line, Table};

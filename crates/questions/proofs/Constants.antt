@@ -1,11 +1,10 @@
 -- The constants of a problem, one by one: each is two bytes at its place. Of those that rise, the two ends tell question 9.
 use mathlib.Core.Path.{◌≡◌, refl, sym, ap, ap₂, ◌∙◌}
 use mathlib.Core.Bool.{Bool, true, false, ◌&&◌, false≢true}
-use mathlib.Core.List.{List, [], ◌∷◌}
+use mathlib.Core.List.{List, [], ◌∷◌, map}
 use Prim.Native.Nat.{ℕ, zero, suc, ◌+◌, ◌*◌, ◌-◌, ◌/◌, ◌<◌, ◌≤◌}
 use native.Mathlib.Omega.{arith}
 use lib.ListN.{length, get_or, take, drop, length-take, length-drop}
-use lib.Seq.{get_or-take, get_or-drop}
 use lib.Dec.{eqb}
 use lib.IntN.{ℤ, pos, negsuc, suc_ℤ, ◌+ℤ◌, ◌-ℤ◌}
 use lib.Signed.{◌<ℤ◌, ◌≤ℤ◌}
@@ -14,10 +13,13 @@ use Rattle.std.specs.Int.RustNames.{unsigned_abs}
 use Rattle.std.proofs.lemmas.Int.{ints}
 use Rattle.calculus.specs.Lists.{all, up_from}
 use Rattle.calculus.specs.Problem.{Rising}
-use Rattle.calculus.specs.Reading.{signed, words, eq_z, gapless}
+use Rattle.calculus.specs.Reading.{words, eq_z, gapless}
 use Rattle.calculus.proofs.Bools.{same_test}
 use Rattle.calculus.proofs.Membership.{eq_z_eq, eq_eq_z}
+use Rattle.calculus.proofs.Sequences.{at}
+use Rattle.calculus.proofs.Words.{words_length}
 use Rattle.slices.specs.Bytes.{word_at}
+use Rattle.slices.proofs.Parts.{two_more}
 use Rattle.slices.proofs.TwoBytes.{word_read}
 use Rattle.questions.specs.Questions.{constant_at, constants_of}
 
@@ -31,15 +33,22 @@ words_count (a ∷ b ∷ bs) = omega (arith, words_count bs)
 -- ---- the first k constants of a problem
 
 module _ (bs : List ℕ) where
-  pub constant_read_at : (k p : ℕ) → 1 + 2 * k ≤ length bs → p < k → get_or (constants_of bs k) p (pos 0) ≡ constant_at bs p
+  from : (k s : ℕ) → 1 + 2 * (s + k) ≤ length bs → words (take (2 * k) (drop (1 + 2 * s) bs)) ≡ map (constant_at bs) (up_from s k)
+  from zero s l = refl
+  from (suc k) s l =
+      let two : 2 * suc k ≡ suc (suc (2 * k)) = omega arith in
+      ap₂ (λ (n : ℕ) (t : List ℕ). words (take n t)) two (two_more bs (1 + 2 * s) (1 + 2 * suc s) (omega arith) (omega arith)) ∙ ap (λ (t : List ℤ). constant_at bs s ∷ t) (from k (suc s) (omega arith))
+
+  pub constants_are : (k : ℕ) → 1 + 2 * k ≤ length bs → constants_of bs k ≡ map (constant_at bs) (up_from 0 k)
   unfolding constants_of
-  constant_read_at k p l h =
-      let e : 1 + (2 * p + 1) ≡ 1 + 2 * p + 1 = omega arith in
-      word_read (take (2 * k) (drop 1 bs)) p (omega (arith, length-take (2 * k) (drop 1 bs), length-drop 1 bs))
-      ∙ ap₂ (λ (x y : ℕ). signed (x + 256 * y)) (byte_at (2 * p) (omega arith)) (byte_at (2 * p + 1) (omega arith) ∙ ap (λ (i : ℕ). get_or bs i 0) e)
-    where
-      byte_at : (i : ℕ) → i < 2 * k → get_or (take (2 * k) (drop 1 bs)) i 0 ≡ get_or bs (1 + i) 0
-      byte_at i h = rw (get_or-take, get_or-drop)
+  constants_are k l = from k 0 (omega arith)
+
+  pub constants_length : (k : ℕ) → 1 + 2 * k ≤ length bs → length (constants_of bs k) ≡ k
+  unfolding constants_of
+  constants_length k l = words_length k (take (2 * k) (drop 1 bs)) (omega (arith, length-take (2 * k) (drop 1 bs), length-drop 1 bs))
+
+  pub constant_read_at : (k p : ℕ) → 1 + 2 * k ≤ length bs → p < k → get_or (constants_of bs k) p (pos 0) ≡ constant_at bs p
+  constant_read_at k p l h = ap (λ (cs : List ℤ). get_or cs p (pos 0)) (constants_are k l) ∙ at (constant_at bs) 0 k p p (pos 0) h (omega arith)
 
 -- ---- question 9: of rising constants, by the two ends
 

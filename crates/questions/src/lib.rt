@@ -15,7 +15,7 @@ ghost use Rattle.questions.specs.Questions.{operands_at, list_at, interval_at, k
 pub use kind::Kind;
 pub use names::Names;
 pub use refusal::Refusal;
-use slices::{ascends, signed};
+use slices::{rising, signed};
 use std::ops::RangeInclusive;
 
 // How many bytes a constraint has, and how many witnesses: a number, since they are added up.
@@ -29,11 +29,7 @@ pub struct Scanned {
 pub fn constants_ok(constants: &[u8]) -> bool
     ensures { result ≡ (ascending (words constants.now) && in_range (words constants.now)) }
 {
-    let pairs = constants.as_chunks::<2>().0;
-    ascends(constants)
-        && pairs
-            .iter()
-            .all(|c| (-32_000..=32_000).contains(&i16::from_le_bytes(*c)))
+    rising(constants, -32_000, 32_000)
 }
 
 // Questions 4 and 5: strictly ascending letters of a range. By its ends: of a range iterated to its end `contains` promises nothing.

@@ -15,6 +15,22 @@ use terms::{OUT, SetVar, Term};
 #[derive(Clone, Copy)]
 pub struct Literal(pub u8);
 
+// Rules by number, from the first up to the end. It is a type of its own since a range is not Copy.
+#[derive(Clone, Copy)]
+pub struct Span {
+    pub first: u8,
+    pub end: u8,
+}
+
+impl Span {
+    // The numbers, lowest first.
+    pub fn rules(self) -> Range<u8>
+        ensures { (result.start ≡ self.first) × (result.end ≡ self.end) }
+    {
+        self.first..self.end
+    }
+}
+
 // A propagation rule, at any class: two literals that it needs known (the same twice, if it needs but one), and the one that it gives. A row, a child and a denial repeat what they have too few of, so that one test serves all, with no if; with an Option each use would match.
 #[derive(Clone, Copy)]
 pub struct Row(pub Literal, pub Literal, pub Literal);
@@ -40,29 +56,29 @@ pub struct Instance<'a> {
 }
 
 // The propagation rules of a constraint, by number, or its split: one search serves both sorts, and hands on which (`Scope`).
-pub fn span_of(l: &Constraint, split: bool) -> Range<u8>
-    ensures { Spanned split (kind_of (decoded l.now)) result.start result.end }
+pub fn span_of(l: &Constraint, split: bool) -> Span
+    ensures { Spanned split (kind_of (decoded l.now)) result.first result.end }
 {
     if split {
         return match *l {
-            Constraint::Negated(Negation::Unequal, _, _) => 7..8,
-            Constraint::Related(Relation::Union, _) => 12..13,
-            Constraint::Listed(_, _, _) => 20..21,
-            _ => 0..0,
+            Constraint::Negated(Negation::Unequal, _, _) => Span { first: 7, end: 8 },
+            Constraint::Related(Relation::Union, _) => Span { first: 12, end: 13 },
+            Constraint::Listed(_, _, _) => Span { first: 20, end: 21 },
+            _ => Span { first: 0, end: 0 },
         };
     }
     match *l {
-        Constraint::Member(_, _) => 1..2,
-        Constraint::Nonmember(_, _) => 2..3,
-        Constraint::Same(_, _) => 3..4,
-        Constraint::Different(_, _) => 4..5,
-        Constraint::Related(Relation::Equal, _) => 5..7,
-        Constraint::Related(Relation::Union, _) => 8..12,
-        Constraint::Related(Relation::Disjoint, _) => 13..15,
-        Constraint::Related(Relation::Subset, _) => 15..16,
-        Constraint::Related(Relation::Intersection, _) => 16..19,
-        Constraint::Listed(_, _, _) => 19..20,
-        Constraint::Negated(_, _, _) => 0..0,
+        Constraint::Member(_, _) => Span { first: 1, end: 2 },
+        Constraint::Nonmember(_, _) => Span { first: 2, end: 3 },
+        Constraint::Same(_, _) => Span { first: 3, end: 4 },
+        Constraint::Different(_, _) => Span { first: 4, end: 5 },
+        Constraint::Related(Relation::Equal, _) => Span { first: 5, end: 7 },
+        Constraint::Related(Relation::Union, _) => Span { first: 8, end: 12 },
+        Constraint::Related(Relation::Disjoint, _) => Span { first: 13, end: 15 },
+        Constraint::Related(Relation::Subset, _) => Span { first: 15, end: 16 },
+        Constraint::Related(Relation::Intersection, _) => Span { first: 16, end: 19 },
+        Constraint::Listed(_, _, _) => Span { first: 19, end: 20 },
+        Constraint::Negated(_, _, _) => Span { first: 0, end: 0 },
     }
 }
 

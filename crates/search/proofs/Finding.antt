@@ -126,7 +126,9 @@ module _ {split : Bool} {n : ℕ} {bs ps rows : List ℕ} where
   module _ {m looked left : ℕ} {r : result.Option Found} (a : AtMask split n bs ps rows m looked left r) where
     -- none is left
     pub search_over : left ≡ 0 → (b : Branch) → Shown b ps rows → Quiet split n (constraints_of (read bs)) b looked → Finds split n (constraints_of (read bs)) b r
-    search_over e b z q = rw a.nothing (no_place split n b (constraints_of (read bs)) (λ i l. a.quiet b z q i l (no_bit left i e)))
+    search_over e b z q =
+        let idle : (i : ℕ) → i < length (constraints_of (read bs)) → Idle split n b (get_or (constraints_of (read bs)) i no_constraint) = λ i l. a.quiet b z q i l (no_bit left i e) in
+        rw a.nothing (no_place split n b (constraints_of (read bs)) idle, λ i l _. idle i l)
 
     -- one was looked through, and is left no more
     pub next_constraint : {k then j end bits : ℕ} {l : Constraint} {s : result.Option Found} → Takes left k then → AtRule split n bs ps rows k j end bits l s → end ≤ j → AtMask split n bs ps rows m looked then s

@@ -1,5 +1,5 @@
--- The order of the search. The first place is at the first rule that applies of the first constraint that is not idle; if all are idle, there is none.
-use mathlib.Core.Path.{◌≡◌, refl, ap, ap₂, ◌∙◌}
+-- The order of the search. The first place is at the first rule that applies of the first constraint that is not idle; there is none exactly if all are idle.
+use mathlib.Core.Path.{◌≡◌, refl, sym, ap, ap₂, ◌∙◌, subst}
 use mathlib.Core.Bool.{Bool, true, false}
 use mathlib.Core.Option
 use mathlib.Core.Option.{Option, none, some}
@@ -8,14 +8,15 @@ use Prim.Native.Nat.{ℕ, zero, suc, ◌+◌, ◌-◌, ◌<◌, ◌≤◌}
 use native.Mathlib.Omega.{arith}
 use native.Mathlib.Decide.{ℕ_discrete}
 use lib.ListN.{length, get_or}
-use Rattle.calculus.specs.Lists.{up_from, first, gather}
+use Rattle.calculus.specs.Lists.{up_from, first, gather, Each}
 use Rattle.calculus.specs.Terms.{Term}
 use Rattle.calculus.specs.Relations.{applies}
 use Rattle.calculus.specs.Meaning.{Constraint}
 use Rattle.calculus.specs.Branch.{Branch, known}
 use Rattle.calculus.specs.Search.{Move, Candidate, candidates}
+use Rattle.calculus.proofs.Bools.{first_none, map_each, gather_of_each}
 use Rattle.calculus.proofs.SearchLaws.{none_found, first_stop, first_next, first_left, first_none_app}
-use Rattle.calculus.proofs.Sequences.{up_each}
+use Rattle.calculus.proofs.Sequences.{up_each, up_at}
 use Rattle.problem.specs.Table.{no_constraint}
 use Rattle.places.specs.Places.{span_of, InSpan, move_at, positions, first_at, offers}
 use Rattle.places.proofs.Offered.{offered}
@@ -114,3 +115,14 @@ module _ (split : Bool) (n : ℕ) (b : Branch) where
 
     pub place_at : (i : ℕ) (m : Term × Move) → i < length ls → ((k : ℕ) → k < i → Idle split n b (this k)) → first holds (offers split n b (this i)) ≡ some m → first_place_of split n ls b ≡ some (candidate i m)
     place_at i m l h e = by_constraint ∙ row_first passed own (length ls) 0 i (candidate i m) (omega arith) (omega arith) (λ k a g. idle_own k (h k g)) (first_map passed (candidate i) (offers split n b (this i)) ∙ ap (Option.map (candidate i)) e)
+
+    -- and where there is no place, all are idle
+    pub all_idle : first_place_of split n ls b ≡ none → (i : ℕ) → i < length ls → Idle split n b (this i)
+    all_idle e i l j v =
+        let P : Term × Move → Type 0 = λ m. holds m ≡ false in
+        let Q : Candidate → Type 0 = λ c. passed c ≡ false in
+        let c : Constraint = this i in
+        let f = up_at (λ (k : ℕ). Each Q (own k)) 0 (length ls) (gather_of_each Q own (up_from 0 (length ls)) (first_none passed (gather own (up_from 0 (length ls))) (sym by_constraint ∙ e))) i (omega arith) (omega arith) in
+        let g = subst (Each P) (offered split n b c) (map_each Q (candidate i) (offers split n b c) f) in
+        let h = up_at (λ (k : ℕ). Each P (moves c k)) (start c) (count c) (gather_of_each P (moves c) (up_from (start c) (count c)) g) j v.0 (omega (arith, v.0, v.1)) in
+        none_found (λ p. holds (move_at b c j p)) (positions n b c j) (map_each P (move_at b c j) (positions n b c j) h)

@@ -1,4 +1,4 @@
--- What a search is given, and what it answers: the first place of the calculus where a rule applies.
+-- What a search answers: the first place of the calculus where a rule applies.
 use Rattle.std.specs.Prelude as result
 use Rattle.std.specs.Prelude.{◌≡◌, Bool, true, List, ℕ, ◌<◌, length, get_or, Some, None}
 use Rattle.std.proofs.Math.Option.{Option, none, some}
@@ -57,7 +57,7 @@ pub record IsFirst (split : Bool) (n : ℕ) (ls : List Constraint) (b : Branch) 
   pub quiet : Quiet split n ls b r.left
   pub low : (i : ℕ) → bit r.left i ≡ true → i < length ls
 
--- That is what a search answers; or nothing, if there is no place.
+-- That is what a search answers; or nothing, if there is no first place: then no constraint has one.
 abbrev pub Finds : Bool → ℕ → List Constraint → Branch → result.Option Found → Type 0
 Finds split n ls b (Some r) = IsFirst split n ls b r
-Finds split n ls b None = first_place_of split n ls b ≡ none
+Finds split n ls b None = (first_place_of split n ls b ≡ none) × Quiet split n ls b 0

@@ -62,7 +62,7 @@ pub fn search<'a>(run: &'a Prepared, b: &Branch, scope: Scope) -> Option<Found<'
     let looked = looked_at(run, b, scope);
     'search: for n in Ones(looked) {
         let l = decode(&run.problem, n as usize);
-        for rule in span_of(&l, scope.split) {
+        for rule in span_of(&l, scope.split).rules() {
             let fit = fitting(b, run.entries[n as usize], &l, rule);
             for h in Ones(fit) {
                 if h < run.problem.table.terms {

@@ -5,11 +5,14 @@ use mathlib.Core.List.{List, [], ◌∷◌, map}
 use Prim.Native.Nat.{ℕ, zero, suc, ◌+◌, ◌*◌, ◌-◌, ◌/◌, ◌<◌}
 use native.Mathlib.Omega.{arith}
 use lib.ListN.{length, get_or}
+use lib.Dec.{leb, ltb}
 use lib.IntN.{ℤ}
 use lib.Signed.{lt_z}
+use borrow.Author.Tests.{le-leb, leb-true, ltb-true}
 use Rattle.std.specs.Int.{cast_signed, from_le_bytes, w16}
 use Rattle.std.specs.List.{IsAllAdjacentAnswer, list_all}
 use Rattle.std.specs.Simd.{first_chunks}
+use Rattle.slices.specs.Bytes.{word_at}
 use Rattle.slices.proofs.Parts.{of_pairs}
 use Rattle.calculus.specs.Lists.{all}
 use Rattle.calculus.specs.Reading.{signed, words, ascending}
@@ -71,9 +74,27 @@ ascending_adjacent (a ∷ b ∷ zs) = ap (λ (t : Bool). lt_z a b && t) (ascendi
 pub ascending_is : (bs : List ℕ) (r : Bool) → IsAllAdjacentAnswer (λ x y t. t ≡ below x y) (first_chunks 2 (length bs / 2) bs) r → r ≡ ascending (words bs)
 ascending_is bs r h = adjacent_is lt_z number_of _ r h ∙ ap (adjacent lt_z) (words_of_pairs _ bs refl) ∙ ascending_adjacent (words bs)
 
-pub all_numbers : (test : ℤ → Bool) (bs : List ℕ) → list_all (λ x. test (number_of x)) (first_chunks 2 (length bs / 2) bs) ≡ all test (words bs)
-all_numbers test bs = go _ ∙ ap (all test) (words_of_pairs _ bs refl)
-  where
-    go : (xs : List (List ℕ)) → list_all (λ x. test (number_of x)) xs ≡ all test (map number_of xs)
-    go [] = refl
-    go (x ∷ xs) = ap (λ (t : Bool). test (number_of x) && t) (go xs)
+module _ (test : ℤ → Bool) where
+  all_mapped : (number : List ℕ → ℤ) (xs : List (List ℕ)) → list_all (λ x. test (number x)) xs ≡ all test (map number xs)
+  all_mapped number [] = refl
+  all_mapped number (x ∷ xs) = ap (λ (t : Bool). test (number x) && t) (all_mapped number xs)
+
+  pub all_numbers : (bs : List ℕ) → list_all (λ x. test (number_of x)) (first_chunks 2 (length bs / 2) bs) ≡ all test (words bs)
+  all_numbers bs = all_mapped number_of _ ∙ ap (all test) (words_of_pairs _ bs refl)
+
+  -- the same of each pair's number as `word_at` has it
+  pub all_words : (bs : List ℕ) → list_all (λ x. test (word_at x 0)) (first_chunks 2 (length bs / 2) bs) ≡ all test (words bs)
+  all_words bs = all_mapped (λ x. word_at x 0) _ ∙ ap (all test) (sym (of_pairs (λ x. word_at x 0) words refl (λ a. refl) (λ a b bs. refl) _ bs refl))
+
+-- ---- tests one after another
+
+-- d follows from a and c
+pub and_known : (a b c d e f : Bool) → (a ≡ true → c ≡ true → d ≡ true) → (a && b && c && (d && e && f)) ≡ (a && b && (c && e && f))
+and_known true true true d e f h = rw (h refl refl) refl
+and_known true true false d e f h = refl
+and_known true false c d e f h = refl
+and_known false b c d e f h = refl
+
+-- what is above a number from lo on is from lo on
+pub above : (lo a b : ℕ) → leb lo a ≡ true → ltb a b ≡ true → leb lo b ≡ true
+above lo a b p q = le-leb lo b (omega (arith, leb-true lo a p, ltb-true a b q))

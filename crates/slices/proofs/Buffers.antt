@@ -5,9 +5,13 @@ use Prim.Native.Nat.{ℕ, ◌+◌, ◌≤◌}
 use native.Mathlib.Omega.{arith}
 use native.Mathlib.Nat.{add-zero, zero-add}
 use lib.ListN.{length, length-append, length-drop, take, drop, take-append-drop}
-use lib.Seq.{take_at, drop_at, drop-drop, length-take-le}
+use lib.Seq.{paste, take-length, take_at, drop_at, drop-drop, length-take-le}
 use Rattle.calculus.specs.Calls.{over}
 use Rattle.slices.specs.Bytes.{put_at}
+
+-- a copy of all the bytes
+pub paste_whole : (d : List ℕ) (at k : ℕ) (r : List ℕ) → k ≡ length r → paste d at r k ≡ put_at d at r
+paste_whole d at k r e = rw (e, take-length r) (append_assoc (take at d) r (drop (at + length r) d))
 
 -- as long as it was
 pub put_length : (d : List ℕ) (at : ℕ) (r : List ℕ) → at + length r ≤ length d → length (put_at d at r) ≡ length d

@@ -1,11 +1,11 @@
 // Bytes of slices: two of them as a number, ascending numbers, bytes written at a place; and the numbers of all terms.
 #![tactic(auto)]
 
-ghost use Rattle.std.specs.Prelude.{◌≡◌, ◌+◌, ◌≤◌, ◌<◌, length};
+ghost use Rattle.std.specs.Prelude.{◌≡◌, ◌&&◌, ◌+◌, ◌≤◌, ◌<◌, length};
 ghost use Rattle.calculus.specs.Limits.{most_terms};
 ghost use Rattle.calculus.specs.Lists.{up_from};
 ghost use Rattle.calculus.specs.Reading.{ascending, words};
-ghost use Rattle.slices.specs.Bytes.{bytes_at, word_at, put_at};
+ghost use Rattle.slices.specs.Bytes.{bytes_at, word_at, in_bounds, within, put_at};
 
 use terms::MOST_TERMS;
 
@@ -31,6 +31,22 @@ pub fn ascends(part: &[u8]) -> bool
 {
     let pairs = part.as_chunks::<2>().0;
     pairs.is_sorted_by(|a, b| i16::from_le_bytes(*a) < i16::from_le_bytes(*b))
+}
+
+// Whether they are strictly ascending and from lo to hi; either bound may be beyond 16 bits.
+pub fn rising(part: &[u8], lo: i64, hi: i64) -> bool
+    ensures { result ≡ (ascending (words part.now) && within lo hi (words part.now)) }
+{
+    let pairs = part.as_chunks::<2>().0;
+    ascends(part)
+        && pairs.iter().all(
+            |pair| -> bool
+                ensures { result ≡ in_bounds lo hi (word_at pair.now 0) }
+            {
+                let n = i64::from(signed(pair, 0));
+                lo <= n && n <= hi
+            },
+        )
 }
 
 // Writes bytes at a place of a buffer.

@@ -1,8 +1,7 @@
 -- Which constraints a search looks at. A search narrows the masks to what is left to look at, and an act widens them by what it wakes.
 use mathlib.Core.Path.{◌≡◌, refl, sym, ap, ◌∙◌, subst}
 use mathlib.Core.Bool.{Bool, true, false, ◌&&◌, ◌||◌, true≢false, false≢true}
-use mathlib.Core.Option.{none}
-use mathlib.Core.List.{List, [], ◌∷◌, map}
+use mathlib.Core.List.{List}
 use Prim.Native.Nat.{ℕ, zero, suc, ◌+◌, ◌-◌, ◌^◌, ◌<◌, ◌≤◌}
 use native.Mathlib.Omega.{arith}
 use native.Mathlib.Decide.{ℕ_discrete}
@@ -10,21 +9,17 @@ use lib.ListN.{length, get_or}
 use lib.Dec.{ltb}
 use lib.Bits.{bit_or}
 use borrow.Author.Tests.{lt-ltb, ltb-true}
+use Rattle.std.specs.Prelude as result
+use Rattle.std.specs.Prelude.{Some, None}
 use Rattle.calculus.specs.Limits.{most_sets}
-use Rattle.calculus.specs.Lists.{up_from, any, bit, Each}
+use Rattle.calculus.specs.Lists.{up_from, any, bit}
 use Rattle.calculus.specs.Terms.{Term}
 use Rattle.calculus.specs.Meaning.{Constraint}
-use Rattle.calculus.proofs.Bools.{and_r, or_r, first_none, each_left, each_right, map_each, gather_of_each}
-use Rattle.calculus.specs.Relations.{applies}
+use Rattle.calculus.proofs.Bools.{and_r, or_r, clash}
 use Rattle.calculus.specs.Branch as calculus
-use Rattle.calculus.specs.Search.{Move, Candidate, candidates}
 use Rattle.calculus.proofs.Masks.{bit_zero}
-use Rattle.calculus.proofs.SearchLaws.{none_found}
-use Rattle.calculus.proofs.Sequences.{up_at}
-use Rattle.places.specs.Places.{move_at, positions, offers}
-use Rattle.places.proofs.Offered.{offered}
 use Rattle.problem.specs.declared.Table.{Table}
-use Rattle.problem.specs.Table.{Opened, constraint_of, no_constraint}
+use Rattle.problem.specs.Table.{Opened, constraint_of}
 use Rattle.problem.proofs.Access.{opened_sizes, constraint_count}
 use Rattle.solver.proofs.Opening.{place_there}
 use Rattle.bits.proofs.Bits.{bit_of_or, bit_ones}
@@ -34,10 +29,11 @@ use Rattle.branch.specs.Held.{held, Sound}
 use Rattle.branch.specs.Rows.{literals, literal_count}
 use Rattle.branch.proofs.Roots.{root_is}
 use Rattle.constraints.proofs.Decoding.{constraint_in}
-use Rattle.quiet.specs.Quiet.{Idle, Quiet, WordsOf, pair_mark}
+use Rattle.quiet.specs.Quiet.{Quiet, WordsOf, pair_mark}
 use Rattle.quiet.proofs.Waking.{Watched, quiet_noted, quiet_merged}
 use Rattle.search.specs.declared.Found.{Found}
-use Rattle.search.specs.First.{first_place_of, IsFirst}
+use Rattle.search.specs.First.{Finds}
+use Rattle.search.proofs.Order.{all_idle}
 use Rattle.step.specs.declared.Act.{Act}
 use Rattle.step.specs.declared.Act.TheVariants.{Note, Merge, Close}
 use Rattle.step.specs.Acts.{performed, Rooted, Under}
@@ -104,41 +100,29 @@ all_ready {bs} {tab} {all = all} o s e = record { sound = s; propagation = λ i 
     low : (i : ℕ) → bit all i ≡ true → i < tab.constraints
     low i z = ltb-true i tab.constraints (sym (bits i) ∙ z)
 
--- ---- where nothing applies every constraint is idle
-
-candidates_at : (f : Constraint → List (Term × Move)) (P : Move → Type 0) (ls : List Constraint) (i : ℕ) → Each (λ (c : Candidate). P c.move) (candidates f i ls) → (k : ℕ) → k < length ls → Each (λ (m : Term × Move). P m.1) (f (get_or ls k no_constraint))
-candidates_at f P [] i e k l = absurd (omega arith)
-candidates_at f P (c ∷ cs) i e zero l = map_each (λ (x : Candidate). P x.move) (λ (m : Term × Move). record { constraint = i; concerned = m.0; move = m.1 }) (f c) (each_left (λ (x : Candidate). P x.move) _ _ e)
-candidates_at f P (c ∷ cs) i e (suc k) l = candidates_at f P cs (suc i) (each_right (λ (x : Candidate). P x.move) (map (λ (m : Term × Move). record { constraint = i; concerned = m.0; move = m.1 }) (f c)) _ e) k (omega arith)
-
-all_idle : (split : Bool) (n : ℕ) (ls : List Constraint) (b : calculus.Branch) → first_place_of split n ls b ≡ none → (i : ℕ) → i < length ls → Idle split n b (get_or ls i no_constraint)
-unfolding first_place_of
-all_idle split n ls b e i l j r =
-    let c : Constraint = get_or ls i no_constraint in
-    let P : Move → Type 0 = λ m. applies (calculus.known b) m ≡ false in
-    let f = candidates_at (offers split n b) P ls 0 (first_none (λ (x : Candidate). applies (calculus.known b) x.move) (candidates (offers split n b) 0 ls) e) i l in
-    let g = gather_of_each (λ (m : Term × Move). P m.1) (λ (k : ℕ). map (move_at b c k) (positions n b c k)) _ (subst (Each (λ (m : Term × Move). P m.1)) (offered split n b c) f) in
-    none_found (λ (p : ℕ). applies (calculus.known b) (move_at b c j p).1) (positions n b c j)
-    (map_each (λ (m : Term × Move). P m.1) (move_at b c j) (positions n b c j) (up_at (λ (k : ℕ). Each (λ (m : Term × Move). P m.1) (map (move_at b c k) (positions n b c k))) _ _ g j r.0 (omega (arith, r.0, r.1))))
-
 -- ---- the masks of a branch
+
+-- what a search leaves to look at: nothing, where it finds nothing
+abbrev pub left_of : result.Option Found → ℕ
+left_of (Some r) = r.left
+left_of None = 0
+
+-- what it does not leave has no place, and what it leaves is there
+left_over : (split : Bool) (n : ℕ) (ls : List Constraint) (b : calculus.Branch) (r : result.Option Found) → Finds split n ls b r → Quiet split n ls b (left_of r) × ((i : ℕ) → bit (left_of r) i ≡ true → i < length ls)
+left_over split n ls b (Some r) f = (f.quiet, f.low)
+left_over split n ls b None f = (f.1, λ i e. clash e (bit_zero i))
 
 module _ {bs : List ℕ} {tab : Table} (o : Opened bs tab) {b : Branch} {wake ripe : ℕ} (y : Ready bs tab b wake ripe) where
   -- after a search for propagation rules, whether it finds one or none, and after one for splits
-  pub narrowed : {r : Found} → IsFirst false tab.terms (constraints_in bs tab) (held b) r → Ready bs tab b r.left ripe
-  narrowed f = record { sound = y.sound; propagation = f.quiet; splits = y.splits; wake_low = λ i e. place_there bs tab o (f.low i e); ripe_low = y.ripe_low }
+  pub narrowed : (r : result.Option Found) → Finds false tab.terms (constraints_in bs tab) (held b) r → Ready bs tab b (left_of r) ripe
+  narrowed r f = let w = left_over false tab.terms (constraints_in bs tab) (held b) r f in record { sound = y.sound; propagation = w.0; splits = y.splits; wake_low = λ i e. place_there bs tab o (w.1 i e); ripe_low = y.ripe_low }
 
+  pub narrowed_splits : (r : result.Option Found) → Finds true tab.terms (constraints_in bs tab) (held b) r → Ready bs tab b wake (left_of r)
+  narrowed_splits r f = let w = left_over true tab.terms (constraints_in bs tab) (held b) r f in record { sound = y.sound; propagation = y.propagation; splits = w.0; wake_low = y.wake_low; ripe_low = λ i e. place_there bs tab o (w.1 i e) }
+
+  -- where it is known only that no propagation rule applies
   pub quieted : Settled bs tab b → Ready bs tab b 0 ripe
-  quieted e = record {
-    sound = y.sound;
-    propagation = λ i l z. all_idle false tab.terms (constraints_in bs tab) (held b) e i l;
-    splits = y.splits;
-    wake_low = λ i z. absurd (false≢true (sym (bit_zero i) ∙ z));
-    ripe_low = y.ripe_low;
-  }
-
-  pub narrowed_splits : {r : Found} → IsFirst true tab.terms (constraints_in bs tab) (held b) r → Ready bs tab b wake r.left
-  narrowed_splits f = record { sound = y.sound; propagation = y.propagation; splits = f.quiet; wake_low = y.wake_low; ripe_low = λ i e. place_there bs tab o (f.low i e) }
+  quieted e = narrowed None (e, λ i l _. all_idle false tab.terms (held b) (constraints_in bs tab) e i l)
 
   -- after an act
   module _ {entries marks : List ℕ} (k : WordsOf (constraints_in bs tab) entries marks) where

@@ -81,10 +81,10 @@ module _ {bs : List ℕ} {tab : Table} {b : Branch} {r : Found} {q : ℕ} (s : T
   rooted : Taking bs tab true b r r.instance.root.0
   rooted = subst (Taking bs tab true b r) at_root s
 
--- what a search for splits answers, where one for propagation rules finds nothing
-pub dividing : {bs : List ℕ} {tab : Table} {b : Branch} {wake ripe : ℕ} {r : Found} → Opened bs tab → Ready bs tab b wake ripe → ((c : calculus.Branch) → Shown c b.parents b.rows → Quiet false tab.terms (constraints_in bs tab) c wake → first_place_of false tab.terms (constraints_in bs tab) c ≡ none)
+-- what a search for splits answers, where no propagation rule applies
+pub dividing : {bs : List ℕ} {tab : Table} {b : Branch} {wake ripe : ℕ} {r : Found} → Opened bs tab → Ready bs tab b wake ripe → Settled bs tab b
     → ((c : calculus.Branch) → Shown c b.parents b.rows → Quiet true tab.terms (constraints_in bs tab) c ripe → IsFirst true tab.terms (constraints_in bs tab) c r) → Taking bs tab true b r r.instance.root.0
-dividing o y e f = rooted (taking o y.sound (e _ (shows y.sound) y.propagation) (f _ (shows y.sound) y.splits))
+dividing o y e f = rooted (taking o y.sound e (f _ (shows y.sound) y.splits))
 
 module _ {bs : List ℕ} {tab : Table} {b : Branch} {r : Found} (s : Taking bs tab true b r r.instance.root.0) where
   abbrev this : Constraint

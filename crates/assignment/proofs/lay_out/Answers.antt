@@ -36,5 +36,5 @@ returns c =
     let over : c.args.sets ≤ c.loop-part.part-index = omega (arith, v.long, length-map {A = Bor (List ℕ)} {B = List ℕ}) in
     rw c.then_some.ensures
     (where_true (Lays c.args.bytes.now c.args.variables c.args.sets) _ _
-    (λ t. laid_out v over _ refl (written (λ m. m.now) _ c.args.sets 8 c.requires c.loop-part.part-items refl v.long) (omega (arith, c.in_ok-values.ensures.cases.3)) (eqb-true _ 0 (sym c.is_empty.ensures ∙ t)))
+    (λ t. laid_out v over _ refl (written (λ m. m.now) _ c.args.sets 8 c.requires c.loop-part.part-items refl v.long) (eqb-true _ 0 (sym c.is_empty.ensures ∙ t)))
     (λ t. left_over v over (eqb-false _ 0 (sym c.is_empty.ensures ∙ t))))

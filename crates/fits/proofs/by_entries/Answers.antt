@@ -3,4 +3,4 @@ use Rattle.fits.proofs.Listed.{by_entries_20}
 use Rattle.fits.proofs.by_entries.Goals as goal
 
 pub returns : goal.returns
-returns c = by_entries_20 _ _ _ _ _ c.requires.1 _ c.known-row.ensures c.known-row.type_inv c.if-rule-eq19.false _ c.entry_roots.ensures
+returns c = rw c.unshared.ensures (by_entries_20 _ _ _ _ _ c.requires.1 c.if-rule-eq19.false _ c.entry_roots.ensures)

@@ -7,7 +7,7 @@ use Rattle.marks.proofs.Needing.{premises_asked, needs_start, needs_next, no_spl
 use Rattle.marks.proofs.needed.Goals as goal
 
 pub loop-j-init : goal.loop-j-init
-loop-j-init c = rw (c.into_iter-j-iterator.ensures.into_iter_gives, c.in-Related.is) (needs_start _ _ (rw c.in-Related.is at c.span_of-j-items.ensures))
+loop-j-init c = rw (c.into_iter-j-iterator.ensures.into_iter_gives, c.rules-j-items.ensures.0, c.rules-j-items.ensures.1, c.in-Related.is) (needs_start _ _ (rw c.in-Related.is at c.span_of.ensures))
 
 pub premises-found-requires : goal.premises-found-requires
 premises-found-requires c =
@@ -20,10 +20,10 @@ loop-j-preserved c =
     rw (t.0, t.1.2, c.in-Related.is) (needs_next _ _ (rw c.in-Related.is at c.loop-j.invariant) (rw t.1.1 at c.premises-found.ensures))
 
 pub returns-then-not-is_empty : goal.returns-then-not-is_empty
-returns-then-not-is_empty c = rw c.in-Related.is (with_split _ _ (rw c.in-Related.is at c.loop-j.invariant) (omega (arith, c.in-None.ensures.steps.1.0)) (rw c.in-Related.is at c.span_of.ensures) (rw c.in-Related.is at c.requires) c.split_of.ensures c.bit_at-then-not-is_empty.ensures c.bit_at-then-not-is_empty-2.ensures)
+returns-then-not-is_empty c = rw c.in-Related.is (with_split _ _ (rw c.in-Related.is at c.loop-j.invariant) (omega (arith, c.in-None.ensures.steps.1.0)) (rw c.in-Related.is at c.span_of-in-Related.ensures) (rw c.in-Related.is at c.requires) c.split_of.ensures c.bit_at-then-not-is_empty.ensures c.bit_at-then-not-is_empty-2.ensures)
 
 pub returns-else-not-is_empty : goal.returns-else-not-is_empty
-returns-else-not-is_empty c = rw c.in-Related.is (no_split _ _ (rw c.in-Related.is at c.loop-j.invariant) (omega (arith, c.in-None.ensures.steps.1.0)) (rw c.in-Related.is at c.span_of.ensures) (ge_from_not_lt _ _ (not_t _ (rw c.is_empty.ensures at c.if-not-is_empty.false))))
+returns-else-not-is_empty c = rw c.in-Related.is (no_split _ _ (rw c.in-Related.is at c.loop-j.invariant) (omega (arith, c.in-None.ensures.steps.1.0)) (rw c.in-Related.is at c.span_of-in-Related.ensures) (ge_from_not_lt _ _ (not_t _ (rw (c.is_empty.ensures, c.rules.ensures.0, c.rules.ensures.1) at c.if-not-is_empty.false))))
 
 pub returns-in-Listed : goal.returns-in-Listed
 returns-in-Listed c = rw c.in-Listed.is (listed_needs _ (list_set c.in-Listed.is c.requires) c.bit_at-in-Listed.ensures c.bit_at-in-Listed-2.ensures c.bit_at-in-Listed-3.ensures c.in-Listed.field-2)

@@ -12,7 +12,7 @@ pub loop-rule-init : goal.loop-rule-init
 loop-rule-init c =
     let r = c.args.run.now in
     let t = c.search.invariant.there c.in-Some.n c.in-Some.ensures.steps.set in
-    rw c.into_iter-rule-iterator.ensures.into_iter_gives (rules_start r.problem.table c.in-Some.n c.search.invariant.nothing r.problem.opened r.words_are c.requires.0 t c.span_of-rule-items.ensures c.decode-l.ensures)
+    rw (c.into_iter-rule-iterator.ensures.into_iter_gives, c.rules-rule-items.ensures.0, c.rules-rule-items.ensures.1) (rules_start r.problem.table c.in-Some.n c.search.invariant.nothing r.problem.opened r.words_are c.requires.0 t c.span_of.ensures c.decode-l.ensures)
 
 pub search-preserved : goal.search-preserved
 search-preserved c = next_constraint c.search.invariant c.in-Some.ensures.steps c.loop-rule.invariant (omega (arith, c.in-None-rule.ensures.steps.1.0))
@@ -36,7 +36,7 @@ loop-rule-preserved c =
     rw (t.0, t.1.2) (next_rule c.loop-rule.invariant (rw t.1.1 at c.loop-h.invariant) c.in-None-h.ensures.steps.0)
 
 pub loop-h-preserved : goal.loop-h-preserved
-loop-h-preserved c = next_root c.loop-h.invariant c.in-Some-h.ensures.steps c.if-h-run.false
+loop-h-preserved c = next_root c.loop-h.invariant c.in-Some-h.ensures.steps (omega (arith, c.if-h-run.false))
 
 pub returns-in-None : goal.returns-in-None
 returns-in-None c =

@@ -1,9 +1,10 @@
 -- The two workers meet their contracts together: each step of the run is the calculus's, by what the search and the step's act say.
 use Rattle.std.proofs.Common.{◌∙◌, refl, arith, ℕ}
+use Rattle.std.specs.Prelude.{Some, None}
 use Rattle.std.proofs.lemmas.Result.{err_from_is_err_and}
 use Rattle.step.specs.Acts.{Rooted}
 use Rattle.solver.proofs.Opening.{terms_few, shows}
-use Rattle.solver.proofs.Waking.{narrowed, narrowed_splits, quieted, widened}
+use Rattle.solver.proofs.Waking.{narrowed, narrowed_splits, widened}
 use Rattle.solver.proofs.Taking.{propagating, told, is_placed, first_there, somewhere, not_20, inferred, as_one, low_act, child_sound, child_less}
 use Rattle.solver.proofs.Settling.{reached_start, reached_again, step_goes, step_begun, line}
 use Rattle.solver.proofs.Workers.{dividing, keepable, split_next, splitting, split_taking, works_form, works_stopped, works_closed, works_split, worked_begin, worked_done, worked_skip, act_rooted, made, opens, worked_next, worked_stop}
@@ -114,7 +115,7 @@ work-loop-found-preserved t c =
     let m = inferred k c.act_of-act.ensures.0 e in
     let a = c.act_of-act.result in record {
       reached = reached_again v (step_goes k m c.if-conflict.false v.begun (rw c.if-conflict.false at c.in_ok-take_step.ensures.writes));
-      ready = widened p.problem.opened (narrowed p.problem.opened y f) p.words_are a _ (roots_in t (goal.at.work-loop-found-preserved t c).After-act_of-act) (low_act k a c.act_of-act.ensures.1) c.wakes-more.ensures e (child_sound k m c.if-conflict.false);
+      ready = widened p.problem.opened (narrowed p.problem.opened y (Some _) f) p.words_are a _ (roots_in t (goal.at.work-loop-found-preserved t c).After-act_of-act) (low_act k a c.act_of-act.ensures.1) c.wakes-more.ensures e (child_sound k m c.if-conflict.false);
       same = let x = c.loop-found.invariant.same in let z = c.in_ok-take_step.ensures.same_buffers in (z.0 ∙ x.0, z.1 ∙ x.1);
     }
 
@@ -128,16 +129,17 @@ work-list_form-requires t c =
 pub work-returns-in_default-search-clause-comes_to : goal.work-returns-in_default-search-clause-comes_to
 work-returns-in_default-search-clause-comes_to t c =
     let y = c.loop-found.invariant.ready in
-    works_form c.loop-found.invariant.reached c.args.run.now.prepared.problem.opened y.sound ((rw c.in_default.is at c.search.ensures) _ (shows y.sound) y.propagation) (c.in_default-search.ensures _ (shows y.sound) y.splits) _ c.list_form.ensures.lists
+    works_form c.loop-found.invariant.reached c.args.run.now.prepared.problem.opened y.sound ((rw c.in_default.is at c.search.ensures) _ (shows y.sound) y.propagation).0 (c.in_default-search.ensures _ (shows y.sound) y.splits).0 _ c.list_form.ensures.lists
 
 pub work-kept-left-requires : goal.work-kept-left-requires
 work-kept-left-requires t c =
-    keepable (dividing c.args.run.now.prepared.problem.opened c.loop-found.invariant.ready (rw c.in_default.is at c.search.ensures) c.in-Some-search.ensures)
+    let y = c.loop-found.invariant.ready in
+    keepable (dividing c.args.run.now.prepared.problem.opened y ((rw c.in_default.is at c.search.ensures) _ (shows y.sound) y.propagation).0 c.in-Some-search.ensures)
 
 pub work-returns-in_err-take_step-2-clause-comes_to : goal.work-returns-in_err-take_step-2-clause-comes_to
 work-returns-in_err-take_step-2-clause-comes_to t c =
     let y = c.loop-found.invariant.ready in
-    let r = dividing c.args.run.now.prepared.problem.opened y (rw c.in_default.is at c.search.ensures) c.in-Some-search.ensures in
+    let r = dividing c.args.run.now.prepared.problem.opened y ((rw c.in_default.is at c.search.ensures) _ (shows y.sound) y.propagation).0 c.in-Some-search.ensures in
     let p = err_from_is_err_and c.from_residual-in_err-take_step-2.result c.from_residual-in_err-take_step-2.ensures.1 in
     rw (p.1, p.2) (works_stopped c.loop-found.invariant.reached r (split_next r _ c.kept-left.type_inv (c.kept-left.ensures _ y.sound) _ c.child_count.ensures) _ _ _ _ c.in_err-take_step-2.ensures.writes)
 
@@ -148,10 +150,10 @@ work-children-requires t c =
     let y = c.loop-found.invariant.ready in
     let z = (rw c.in_default.is at c.search.ensures) _ (shows y.sound) y.propagation in
     let f = c.in-Some-search.ensures _ (shows y.sound) y.splits in
-    let r = dividing o y (rw c.in_default.is at c.search.ensures) c.in-Some-search.ensures in (
+    let r = dividing o y z.0 c.in-Some-search.ensures in (
       omega (arith, v.less, c.decreases),
       (
-        splitting r _ c.kept-left.type_inv (c.kept-left.ensures _ y.sound) (narrowed_splits o (quieted o y z) f),
+        splitting r _ c.kept-left.type_inv (c.kept-left.ensures _ y.sound) (narrowed_splits o (narrowed o y None z) (Some _) f),
         step_begun (line c.in-Some-search.found _) refl v.begun c.in_ok-take_step-2.ensures.writes,
       ),
     )
@@ -159,5 +161,5 @@ work-children-requires t c =
 pub work-returns-clause-comes_to : goal.work-returns-clause-comes_to
 work-returns-clause-comes_to t c =
     let y = c.loop-found.invariant.ready in
-    let r = dividing c.args.run.now.prepared.problem.opened y (rw c.in_default.is at c.search.ensures) c.in-Some-search.ensures in
+    let r = dividing c.args.run.now.prepared.problem.opened y ((rw c.in_default.is at c.search.ensures) _ (shows y.sound) y.propagation).0 c.in-Some-search.ensures in
     works_split c.loop-found.invariant.reached r _ (split_next r _ c.kept-left.type_inv (c.kept-left.ensures _ y.sound) _ c.child_count.ensures) _ c.in_ok-take_step-2.ensures.writes _ c.children.ensures.comes_to

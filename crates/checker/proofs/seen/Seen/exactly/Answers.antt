@@ -22,7 +22,7 @@ pub returns-then-all : goal.returns-then-all
 returns-then-all c =
     let s = c.args in
     then_second _ _ _ (members_pass (goal.at.returns-then-all c).After-all) c.if-all.true
-    (all_from_yields_List (λ e. has (words s.members.now) (value_at s.self.now e)) _ _ _ c.all-then-all.ensures.ran (YieldsList-from_slice s.list.now cc) (λ x b q k. grind (arith, k)))
+    (all_from_yields_List (λ e. has (words s.members.now) (value_at s.self.now e)) _ _ _ c.all-then-all.ensures.ran (YieldsList-from_slice s.list.now c.iter-then-all.ensures.rest) (λ x b q k. grind (arith, k)))
 
 pub returns-else-all : goal.returns-else-all
 returns-else-all c = first_fails _ _ _ (members_pass (goal.at.returns-else-all c).After-all) c.if-all.false
