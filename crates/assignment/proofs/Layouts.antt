@@ -22,7 +22,7 @@ use Rattle.slices.specs.Bytes.{word_at, places_from, filled}
 use Rattle.slices.proofs.Parts.{filled_at}
 use Rattle.slices.proofs.TwoBytes.{word_read}
 use Rattle.assignment.specs.declared.Assignment.{Assignment}
-use Rattle.assignment.specs.Laid.{read_handed, members_of, MembersRead, member_bytes, starts_of, members_at, MembersStand, part_of, Lays}
+use Rattle.assignment.specs.Laid.{read_handed, members_of, MembersRead, member_bytes, starts_of, members_at, MembersStand, Pairs, part_of, PartsOf, Lays}
 
 -- ---- a count, numbers, a set's members
 
@@ -64,6 +64,10 @@ module _ (bs : List ℕ) (n : ℕ) (rest part after : List ℕ) (e : bs ≡ n �
   members_there f =
       let w : length (words part) ≡ n = words_length n part (ap length p ∙ length-take-le (2 * n) rest there) in
       rw w (rw e (omega arith), rw e p, q ∙ rw e (drop-drop (2 * n) 1 (n ∷ rest)), read_there f)
+
+-- of members that stand so there are two bytes each
+pub members_read : (bs part after : List ℕ) → MembersRead bs part after → (length part ≡ 2 * length (words part)) × (members_of bs ≡ parsed (words part, after))
+members_read bs part after h = (ap length h.1 ∙ length-take-le (2 * length (words part)) (drop 1 bs) (omega (arith, h.0, length-drop 1 bs)), h.3)
 
 -- number i of the values, which follow the count byte
 word_in : (bs : List ℕ) (n i : ℕ) → i < n → word_at (take (2 * n) (drop 1 bs)) (2 * i) ≡ word_at bs (1 + 2 * i)
@@ -157,6 +161,16 @@ module _ (n s : ℕ) where
       unfolding read_handed count ◌>>=◌ ask
       values_read h = rw (eq-eqb c n e, e, numbers_there n bs h)
 
+-- ---- the parts, wherever they stand
+
+-- the bytes are an assignment, with these parts
+abbrev pub ReadInto : (bs : List ℕ) (n s : ℕ) → Assignment → Type 0
+ReadInto bs n s a = (g : Handed) × (read_handed n s bs ≡ parsed g) × PartsOf n s g a
+
+-- those that stand in the bytes are so
+pub read_into : (bs : List ℕ) (n s : ℕ) (a : Assignment) → Lays bs n s (Some a) → ReadInto bs n s a
+read_into bs n s a h = (h.0, h.1, h.2.parts)
+
 -- ---- the loop over the sets
 
 -- where the members of a next set begin
@@ -184,20 +198,18 @@ part_is bs at c = ap (take (2 * c)) (drop-drop 1 at bs)
 
 -- set A, of the sets xss, stands in the bytes, and its members are this part
 abbrev Member : List ℕ → ℕ → List (List ℤ) → ℕ → List ℕ → Type 0
-Member bs n xss A part = MembersStand bs n xss A × (part ≡ members_at bs n xss A) × (length part ≡ 2 * length (get_or xss A []))
+Member bs n xss A part = MembersStand bs n xss A × (part ≡ members_at bs n xss A)
 
--- k of s sets are read, into these parts, and what is left begins at a place
+-- the last of the sets
+last_set : (xss : List (List ℤ)) (ys : List ℤ) (k : ℕ) → length xss ≡ k → get_or (xss ++ (ys ∷ [])) k [] ≡ ys
+last_set xss ys k e = let p : k ≡ length xss + 0 = omega (arith, e) in ap (λ (x : ℕ). get_or (xss ++ (ys ∷ [])) x []) p ∙ get_or-append-add xss (ys ∷ []) 0 []
+
+-- k of s sets are read, into these parts, and what is left
 pub record SoFar (bs : List ℕ) (n s : ℕ) (values : List ℕ) (parts : List (List ℕ)) (k : ℕ) (rest : List ℕ) : Type 0 where
   pub sets : List (List ℤ)
   pub many : length sets ≡ k
   pub long : length parts ≡ s
-  pub values_stand : (1 + 2 * n ≤ length bs) × (values ≡ take (2 * n) (drop 1 bs))
-  pub at : ℕ
-  pub place : at + 1 ≡ next_at (2 + 2 * n) sets
-  pub rest_is : (at ≤ length bs) × (rest ≡ drop at bs)
-  pub stand : (A : ℕ) → A < k → MembersStand bs n sets A
-  pub starts_are : (A : ℕ) → A < k → get_or parts A [] ≡ members_at bs n sets A
-  pub counts_are : (A : ℕ) → A < k → length (get_or parts A []) ≡ 2 * length (get_or sets A [])
+  pub stand : (A : ℕ) → A < k → Pairs (get_or parts A []) (get_or sets A [])
   pub left : read_handed n s bs ≡ read_on (s - k) rest (words values) sets
 
 -- before the first set
@@ -206,13 +218,7 @@ start n s c bs tail values rest parts b e h v r p = record {
   sets = [];
   many = refl;
   long = p;
-  values_stand = rw b (omega arith, v);
-  at = 1 + 2 * n;
-  place = omega arith;
-  rest_is = rw b (omega arith, r ∙ drop-drop (2 * n) 1 (c ∷ tail));
   stand = λ A z. absurd (omega arith);
-  starts_are = λ A z. absurd (omega arith);
-  counts_are = λ A z. absurd (omega arith);
   left = let z : s - 0 ≡ s = omega arith in rw (z, b, v, r) (values_read n s c tail e h);
 }
 
@@ -222,89 +228,132 @@ module _ {bs : List ℕ} {n s : ℕ} {values : List ℕ} {parts : List (List ℕ
     pub no_set : members_of rest ≡ refused 14 → read_handed n s bs ≡ refused 14
     no_set h = so.left ∙ stop rest s k l (words values) so.sets h
 
-    module _ (part next : List ℕ) (h : MembersRead rest part next) where
-      abbrev ys : List ℤ
-      ys = words part
-
-      abbrev sets_now : List (List ℤ)
-      sets_now = so.sets ++ (ys ∷ [])
-
-      there : so.at + 1 + 2 * length ys ≤ length bs
-      there = omega (arith, h.0, so.rest_is.0, ap length so.rest_is.1, length-drop so.at bs)
-
-      part_there : part ≡ take (2 * length ys) (drop (so.at + 1) bs)
-      part_there = h.1 ∙ ap (λ (x : List ℕ). take (2 * length ys) (drop 1 x)) so.rest_is.1 ∙ part_is bs so.at (length ys)
-
-      part_long : length part ≡ 2 * length ys
-      part_long = ap length part_there ∙ length-take-le (2 * length ys) (drop (so.at + 1) bs) (omega (arith, there, length-drop (so.at + 1) bs))
-
-      pub set_read : SoFar bs n s values (set parts k part) (k + 1) next
-      set_read = record {
-        sets = sets_now;
-        many = omega (arith, length-append so.sets (ys ∷ []), so.many);
-        long = omega (arith, length-set parts k part, so.long);
-        values_stand = so.values_stand;
-        at = so.at + 1 + 2 * length ys;
-        place = omega (arith, so.place, next_more (2 + 2 * n) so.sets ys);
-        rest_is = (
-          there,
-          h.2 ∙ ap (drop (1 + 2 * length ys)) so.rest_is.1 ∙ drop-drop (1 + 2 * length ys) so.at bs ∙ ap (λ (x : ℕ). drop x bs) (omega arith),
-        );
-        stand = λ A z. (stands A z (ℕ_discrete A k)).0;
-        starts_are = λ A z. (stands A z (ℕ_discrete A k)).1;
-        counts_are = λ A z. (stands A z (ℕ_discrete A k)).2;
-        left = so.left ∙ go_on rest s k l (words values) so.sets ys next h.3;
-      }
-        where
-          stands : (A : ℕ) → A < k + 1 → Dec (A ≡ k) → Member bs n sets_now A (get_or (set parts k part) A [])
-          stands A z (yes q) =
-              let p : k ≡ length so.sets + 0 = omega (arith, so.many) in
-              let o : get_or sets_now k [] ≡ ys = ap (λ (x : ℕ). get_or sets_now x []) p ∙ get_or-append-add so.sets (ys ∷ []) 0 [] in
-              let w : k ≡ length (starts_of n so.sets) + 0 = omega (arith, so.many, places_length (2 + 2 * n) so.sets) in
-              let f : get_or (starts_of n sets_now) k 0 ≡ so.at + 1 =
-              ap (λ (x : List ℕ). get_or x k 0) (starts_more (2 + 2 * n) so.sets ys)
-              ∙ ap (λ (x : ℕ). get_or (starts_of n so.sets ++ (next_at (2 + 2 * n) so.sets ∷ [])) x 0) w
-              ∙ get_or-append-add (starts_of n so.sets) (next_at (2 + 2 * n) so.sets ∷ []) 0 0
-              ∙ sym so.place in
-              rw (q, get_or-set_same parts k part [] (omega (arith, so.long)), o, f) ((there, ap words part_there), part_there, part_long)
-          stands A z (no q) =
-              let f : get_or (starts_of n sets_now) A 0 ≡ get_or (starts_of n so.sets) A 0 =
-              ap (λ (x : List ℕ). get_or x A 0) (starts_more (2 + 2 * n) so.sets ys)
-              ∙ get_or-append (starts_of n so.sets) (next_at (2 + 2 * n) so.sets ∷ []) 0 A (omega (arith, so.many, places_length (2 + 2 * n) so.sets)) in
-              rw (get_or-set_other parts k A part [] q, get_or-append so.sets (ys ∷ []) [] A (omega (arith, so.many)), f) (so.stand A (omega arith), so.starts_are A (omega arith), so.counts_are A (omega arith))
+    pub set_read : (part after : List ℕ) → (length part ≡ 2 * length (words part)) × (members_of rest ≡ parsed (words part, after)) → SoFar bs n s values (set parts k part) (k + 1) after
+    set_read part after h = record {
+      sets = so.sets ++ (words part ∷ []);
+      many = omega (arith, length-append so.sets (words part ∷ []), so.many);
+      long = omega (arith, length-set parts k part, so.long);
+      stand = λ A z. stands A z (ℕ_discrete A k);
+      left = so.left ∙ go_on rest s k l (words values) so.sets (words part) after h.1;
+    }
+      where
+        stands : (A : ℕ) → A < k + 1 → Dec (A ≡ k) → Pairs (get_or (set parts k part) A []) (get_or (so.sets ++ (words part ∷ [])) A [])
+        stands A z (yes q) = rw (q, get_or-set_same parts k part [] (omega (arith, so.long)), last_set so.sets (words part) k so.many) (h.0, refl)
+        stands A z (no q) =
+            rw (get_or-set_other parts k A part [] q, get_or-append so.sets (words part ∷ []) [] A (omega (arith, so.many))) (so.stand A (omega arith))
 
   -- no set is left
   module _ (l : s ≤ k) where
     pub left_over : ¬ (length rest ≡ 0) → read_handed n s bs ≡ refused 14
     left_over h = so.left ∙ stop_over rest s k l (words values) so.sets h
 
-    module _ (a : Assignment) (v : a.values.now ≡ values) (p : map (λ m. m.now) a.members ≡ filled [] most_sets parts) where
-      values_length : length values ≡ 2 * n
-      values_length = ap length so.values_stand.1 ∙ length-take-le (2 * n) (drop 1 bs) (omega (arith, so.values_stand.0, length-drop 1 bs))
+    pub laid_out : (a : Assignment) → a.values.now ≡ values → map (λ m. m.now) a.members ≡ filled [] most_sets parts → length values ≡ 2 * n → length rest ≡ 0 → ReadInto bs n s a
+    laid_out a v p g h = (
+      record { numbers = words values; sets = so.sets },
+      so.left ∙ all_read rest s k l (words values) so.sets h,
+      record {
+        many = words_length n values g;
+        values_are = rw v (omega (arith, g, words_length n values g), refl);
+        members_are = λ A z. rw (p, filled_at {A = List ℕ} [] most_sets parts A) (so.stand A (omega arith));
+        beyond = λ A z. rw (p, filled_at {A = List ℕ} [] most_sets parts A) (get_or-eq_default parts [] (omega (arith, so.long)));
+      },
+    )
 
-      part_at : (A : ℕ) → part_of a A ≡ get_or parts A []
-      part_at A = ap (λ (x : List (List ℕ)). get_or x A []) p ∙ filled_at {A = List ℕ} [] most_sets parts A
+-- ---- and where in the bytes they stand
 
-      number_is : (i : ℕ) → i < n → get_or (words values) i (pos 0) ≡ word_at bs (1 + 2 * i)
-      number_is i z = word_read values i (omega (arith, values_length)) ∙ rw so.values_stand.1 (word_in bs n i z)
+-- they stand there too, and what is left begins at a place
+pub record Standing (bs : List ℕ) (n s : ℕ) (values : List ℕ) (parts : List (List ℕ)) (k : ℕ) (rest : List ℕ) : Type 0 where
+  pub so_far : SoFar bs n s values parts k rest
+  pub values_stand : (1 + 2 * n ≤ length bs) × (values ≡ take (2 * n) (drop 1 bs))
+  pub at : ℕ
+  pub place : at + 1 ≡ next_at (2 + 2 * n) so_far.sets
+  pub rest_is : (at ≤ length bs) × (rest ≡ drop at bs)
+  pub stand : (A : ℕ) → A < k → MembersStand bs n so_far.sets A
+  pub starts_are : (A : ℕ) → A < k → get_or parts A [] ≡ members_at bs n so_far.sets A
 
-      pub laid_out : length rest ≡ 0 → Lays bs n s (Some a)
-      laid_out h = (
-        record { numbers = words values; sets = so.sets },
-        so.left ∙ all_read rest s k l (words values) so.sets h,
-        record {
-          numbers_are = λ i z. (omega (arith, so.values_stand.0), number_is i z);
-          members_are = λ A z. so.stand A (omega arith);
-          values_stand = v ∙ so.values_stand.1;
-          members_stand = λ A z. part_at A ∙ so.starts_are A (omega arith);
-          parts = record {
-            many = words_length n values values_length;
-            values_are = rw v (omega (arith, values_length, words_length n values values_length), refl);
-            members_are = λ A z. rw (part_at A) (so.counts_are A (omega arith), ap words (so.starts_are A (omega arith)) ∙ sym (so.stand A (omega arith)).1);
-            beyond = λ A z. part_at A ∙ get_or-eq_default parts [] (omega (arith, so.long));
-          };
-        },
-      )
+pub start_stands : (n s c : ℕ) (bs tail values rest : List ℕ) (parts : List (List ℕ)) → bs ≡ c ∷ tail → c ≡ n → 2 * n ≤ length tail → values ≡ take (2 * n) tail → rest ≡ drop (2 * n) tail → length parts ≡ s → Standing bs n s values parts 0 rest
+unfolding start
+start_stands n s c bs tail values rest parts b e h v r p = record {
+  so_far = start n s c bs tail values rest parts b e h v r p;
+  values_stand = rw b (omega arith, v);
+  at = 1 + 2 * n;
+  place = omega arith;
+  rest_is = rw b (omega arith, r ∙ drop-drop (2 * n) 1 (c ∷ tail));
+  stand = λ A z. absurd (omega arith);
+  starts_are = λ A z. absurd (omega arith);
+}
+
+module _ {bs : List ℕ} {n s : ℕ} {values : List ℕ} {parts : List (List ℕ)} {k : ℕ} {rest : List ℕ} (st : Standing bs n s values parts k rest) where
+  abbrev so : SoFar bs n s values parts k rest
+  so = st.so_far
+
+  module _ (l : k < s) (part next : List ℕ) (h : MembersRead rest part next) where
+    abbrev ys : List ℤ
+    ys = words part
+
+    abbrev sets_now : List (List ℤ)
+    sets_now = so.sets ++ (ys ∷ [])
+
+    there : st.at + 1 + 2 * length ys ≤ length bs
+    there = omega (arith, h.0, st.rest_is.0, ap length st.rest_is.1, length-drop st.at bs)
+
+    part_there : part ≡ take (2 * length ys) (drop (st.at + 1) bs)
+    part_there = h.1 ∙ ap (λ (x : List ℕ). take (2 * length ys) (drop 1 x)) st.rest_is.1 ∙ part_is bs st.at (length ys)
+
+    pub set_stands : Standing bs n s values (set parts k part) (k + 1) next
+    unfolding set_read
+    set_stands = record {
+      so_far = set_read so l part next (members_read rest part next h);
+      values_stand = st.values_stand;
+      at = st.at + 1 + 2 * length ys;
+      place = omega (arith, st.place, next_more (2 + 2 * n) so.sets ys);
+      rest_is = (
+        there,
+        h.2 ∙ ap (drop (1 + 2 * length ys)) st.rest_is.1 ∙ drop-drop (1 + 2 * length ys) st.at bs ∙ ap (λ (x : ℕ). drop x bs) (omega arith),
+      );
+      stand = λ A z. (stands A z (ℕ_discrete A k)).0;
+      starts_are = λ A z. (stands A z (ℕ_discrete A k)).1;
+    }
+      where
+        stands : (A : ℕ) → A < k + 1 → Dec (A ≡ k) → Member bs n sets_now A (get_or (set parts k part) A [])
+        stands A z (yes q) =
+            let w : k ≡ length (starts_of n so.sets) + 0 = omega (arith, so.many, places_length (2 + 2 * n) so.sets) in
+            let f : get_or (starts_of n sets_now) k 0 ≡ st.at + 1 =
+            ap (λ (x : List ℕ). get_or x k 0) (starts_more (2 + 2 * n) so.sets ys)
+            ∙ ap (λ (x : ℕ). get_or (starts_of n so.sets ++ (next_at (2 + 2 * n) so.sets ∷ [])) x 0) w
+            ∙ get_or-append-add (starts_of n so.sets) (next_at (2 + 2 * n) so.sets ∷ []) 0 0
+            ∙ sym st.place in
+            rw (q, get_or-set_same parts k part [] (omega (arith, so.long)), last_set so.sets ys k so.many, f) ((there, ap words part_there), part_there)
+        stands A z (no q) =
+            let f : get_or (starts_of n sets_now) A 0 ≡ get_or (starts_of n so.sets) A 0 =
+            ap (λ (x : List ℕ). get_or x A 0) (starts_more (2 + 2 * n) so.sets ys)
+            ∙ get_or-append (starts_of n so.sets) (next_at (2 + 2 * n) so.sets ∷ []) 0 A (omega (arith, so.many, places_length (2 + 2 * n) so.sets)) in
+            rw (get_or-set_other parts k A part [] q, get_or-append so.sets (ys ∷ []) [] A (omega (arith, so.many)), f) (st.stand A (omega arith), st.starts_are A (omega arith))
+
+  module _ (l : s ≤ k) (a : Assignment) (v : a.values.now ≡ values) (p : map (λ m. m.now) a.members ≡ filled [] most_sets parts) where
+    values_length : length values ≡ 2 * n
+    values_length = ap length st.values_stand.1 ∙ length-take-le (2 * n) (drop 1 bs) (omega (arith, st.values_stand.0, length-drop 1 bs))
+
+    part_at : (A : ℕ) → part_of a A ≡ get_or parts A []
+    part_at A = ap (λ (x : List (List ℕ)). get_or x A []) p ∙ filled_at {A = List ℕ} [] most_sets parts A
+
+    number_is : (i : ℕ) → i < n → get_or (words values) i (pos 0) ≡ word_at bs (1 + 2 * i)
+    number_is i z = word_read values i (omega (arith, values_length)) ∙ rw st.values_stand.1 (word_in bs n i z)
+
+    pub all_stand : length rest ≡ 0 → Lays bs n s (Some a)
+    unfolding laid_out
+    all_stand h =
+        let r : ReadInto bs n s a = laid_out so l a v p values_length h in (
+          r.0,
+          r.1,
+          record {
+            numbers_are = λ i z. (omega (arith, st.values_stand.0), number_is i z);
+            members_are = λ A z. st.stand A (omega arith);
+            values_stand = v ∙ st.values_stand.1;
+            members_stand = λ A z. part_at A ∙ st.starts_are A (omega arith);
+            parts = r.2;
+          },
+        )
 
 -- ---- the sets' parts: those of the first sets are written, and the others are empty
 

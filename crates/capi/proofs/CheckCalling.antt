@@ -16,7 +16,8 @@ use Rattle.problem.specs.declared.table.Table.{Table}
 use Rattle.problem.specs.Table.{problem_table, TableOf, constraints_of}
 use Rattle.problem.specs.declared.accepted.Problem as code
 use Rattle.assignment.specs.declared.Assignment.{Assignment}
-use Rattle.assignment.specs.Laid.{read_handed, Lays}
+use Rattle.assignment.specs.Laid.{read_handed}
+use Rattle.assignment.proofs.Layouts.{ReadInto}
 use Rattle.checker.specs.declared.seen.Seen.{Seen}
 use Rattle.checker.specs.Tested.{seen, failing}
 use Rattle.checker.proofs.Agreeing.{lowest_seen}
@@ -47,16 +48,16 @@ module _ (bs hs : List ℕ) where
     no_assignment q = declined_so 14 (((checks bs hs).1 prob r).0 14 (sym same_question ∙ q))
 
 -- what was seen is tested
-module _ (bs hs : List ℕ) (p : code.Problem) (prob : Problem) (r : read bs ≡ parsed prob) (o : ReadAs bs prob p) (a : Assignment) (lay : Lays hs p.table.variables p.table.sets (Some a)) where
+module _ (bs hs : List ℕ) (p : code.Problem) (prob : Problem) (r : read bs ≡ parsed prob) (o : ReadAs bs prob p) (a : Assignment) (lay : ReadInto hs p.table.variables p.table.sets a) where
   abbrev saw : Seen
-  saw = record { problem = p; handed = a; valued = omega (arith, lay.2.parts.values_are.0, lay.2.parts.many) }
+  saw = record { problem = p; handed = a; valued = omega (arith, lay.2.values_are.0, lay.2.many) }
 
   tested : (t : result.Option ℕ) → lowest (seen saw) 0 (constraints_of (read p.bytes.now)) ≡ failing t → check bs hs ≡ checked_by (parsed (failing t))
   unfolding check ◌>>=◌ constraints_of
   tested t e =
       let q : read p.bytes.now ≡ parsed prob = ap read o.0 ∙ r in
       let x = rw q at e in
-      rw (r, sym (same_question bs hs prob r p.table o.1) ∙ lay.1) (ap (λ (y : Option ℕ). checked_by (parsed y)) (sym (lowest_seen saw prob q lay.0 lay.2.parts) ∙ x))
+      rw (r, sym (same_question bs hs prob r p.table o.1) ∙ lay.1) (ap (λ (y : Option ℕ). checked_by (parsed y)) (sym (lowest_seen saw prob q lay.0 lay.2) ∙ x))
 
   pub check_fails : (i : ℕ) → lowest (seen saw) 0 (constraints_of (read p.bytes.now)) ≡ some i → 6 + 256 * i ≡ check_word (check bs hs)
   unfolding check_word
